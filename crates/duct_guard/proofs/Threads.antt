@@ -6,8 +6,8 @@ use Rattle.std.proofs.Crossing.{crosses}
 use Rattle.std.proofs.sync.OnceLock.TheSendSync as once_lock
 use Rattle.duct_system.specs.declared.system.Child
 use Rattle.duct_system.specs.declared.system.Numbered
-use Rattle.duct_guard.specs.contracts.child.Ended
-use Rattle.duct_guard.specs.contracts.child.GuardedChild
+use Rattle.duct_guard.specs.contracts.crew.Ended
+use Rattle.duct_guard.specs.contracts.crew.GuardedChild
 
 module _ (C : RattleType) (c : Child.Ghosts C.Denot) (cn : Numbered.Ghosts C.Denot) where
   -- the note of an end may be sent

@@ -5,7 +5,9 @@ pub mod Crew
 pub mod Forwarded
 pub mod GuardView
 pub mod Held
+pub mod Line
 pub mod Policies
 pub mod Requests
 pub mod Rules
+pub mod Traces
 pub mod Under

@@ -2,8 +2,8 @@
 use Rattle.std.specs.Prelude.{ℕ, List}
 use Rattle.duct_system.specs.SpecView.{SpecView}
 use Rattle.duct_system.specs.declared.system.Side.{Side}
-use Rattle.duct_guard.specs.declared.request.Request.{Request}
-use Rattle.duct_guard.specs.declared.request.Request.TheVariants.{Spawn, Read, Create, Canonicalize, Duplicate, Parent}
+use Rattle.duct_guard.specs.declared.policy.Request.{Request}
+use Rattle.duct_guard.specs.declared.policy.Request.TheVariants.{Spawn, Read, Create, Canonicalize, Duplicate, Parent}
 
 -- a request: to start a child by this spec; to open this path for reading, or for writing; to look
 -- up its canonical path; to return one more end of an end, or of this stream of the parent

@@ -18,7 +18,7 @@ use Rattle.duct_guard.specs.Crew.{IsCrew}
 use Rattle.duct_guard.specs.Forwarded.{ForwardsAll}
 use Rattle.duct_guard.specs.GuardView.{GuardView}
 use Rattle.duct_guard.specs.Held.{counts_of, held_after, nothing_held}
-use Rattle.duct_guard.specs.declared.child.GuardedChild.{GuardedChild}
+use Rattle.duct_guard.specs.declared.crew.GuardedChild.{GuardedChild}
 use Rattle.duct_guard.specs.declared.counts.Held.{Held}
 use Rattle.duct_guard.specs.declared.fixed.Fixed.{Fixed}
 use Rattle.duct_guard.specs.declared.fixed.FixedRules as rules_trait

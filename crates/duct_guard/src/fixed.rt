@@ -4,8 +4,7 @@ ghost use Rattle.duct_guard.specs.Rules.{Rules};
 ghost use Rattle.duct_guard.specs.Policies.{all_allowed};
 
 use crate::counts::Counts;
-use crate::policy::Policy;
-use crate::request::Request;
+use crate::policy::{Policy, Request};
 use std::marker::{Brand, PhantomData};
 
 /// Stands for rules that are known only while the program runs.

@@ -10,9 +10,8 @@ ghost use Rattle.duct_guard.specs.Forwarded.{ForwardsAll, allows_spawn};
 ghost use Rattle.duct_guard.specs.GuardView.{GuardView};
 ghost use Rattle.duct_guard.specs.Held.{AlwaysFits, Fits, IsBegun, counts_of, held_after, nothing_held, with_ends};
 
-use crate::child::GuardedChild;
 use crate::counts::{Counts, Held};
-use crate::crew::{Member, forget_ended};
+use crate::crew::{GuardedChild, Member, forget_ended};
 use crate::policy::Policy;
 use crate::requests::{
     canonicalize_twice, create_allowed, duplicate_allowed, environment_twice, no_memory,

@@ -1,25 +1,22 @@
-//! A system that passes on to another one only the requests that a policy allows.
+//! A system that passes on to another one only the requests that a policy allows, and one that
+//! writes each command before it is started.
 #![tactic(auto)]
 
-mod child;
 mod counts;
 mod crew;
-mod error;
 mod fixed;
 mod guard;
 mod policies;
 mod policy;
-mod request;
 mod requests;
-mod streams;
+mod traced;
 mod under;
 
-pub use child::GuardedChild;
 pub use counts::Counts;
-pub use error::PolicyError;
+pub use crew::GuardedChild;
 pub use fixed::{Fixed, FixedRules};
 pub use guard::Guarded;
 pub use policies::{AtOnce, Both, Folders, Limits, Programs, ReadOnly, Variables};
-pub use policy::Policy;
-pub use request::Request;
+pub use policy::{Policy, PolicyError, Request};
+pub use traced::Traced;
 pub use under::{Under, read_under, run_under};

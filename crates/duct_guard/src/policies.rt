@@ -3,12 +3,10 @@ ghost use Rattle.std.specs.Prelude.{◌≡◌, ◌&&◌, [], true, false, codes,
 ghost use Rattle.std.specs.Option.{option_map};
 ghost use Rattle.std.specs.List.{list_any};
 ghost use Rattle.duct_system.specs.SpecView.{pair_text};
-ghost use Rattle.duct_guard.specs.Policies.{are_kept, begins_with, begins_with_slash, climbs, has_value, is_below, is_fixed, is_found, is_listed, lies_within};
+ghost use Rattle.duct_guard.specs.Policies.{are_kept, begins_with, begins_with_slash, climbs, has_value, is_below, is_fixed, is_found, is_listed};
 
 use crate::counts::Counts;
-use crate::error::PolicyError;
-use crate::policy::Policy;
-use crate::request::Request;
+use crate::policy::{Policy, PolicyError, Request};
 use duct_system::spec::CommandSpec;
 use std::convert::AsStr;
 use std::marker::Model;
@@ -183,7 +181,7 @@ impl Policy for Folders {
     fn allows(&self, request: Request) -> bool {
         match request {
             Request::Read(path) | Request::Create(path) => {
-                lies_within(self.folders.as_slice(), path)
+                !climbs(path) && is_below_one(self.folders.as_slice(), path)
             }
             _ => true,
         }
@@ -196,13 +194,6 @@ impl Policy for Folders {
     fn at_once(&self) -> usize {
         usize::MAX
     }
-}
-
-// Returns whether a path lies at or below one of these folders, as it is written.
-fn lies_within(folders: &[String], path: &str) -> bool
-    ensures { result ≡ lies_within (map string_bytes folders.now) path.now }
-{
-    !climbs(path) && is_below_one(folders, path)
 }
 
 // Returns whether a path has `..` among its names.

@@ -1,13 +1,12 @@
 //! Requests to the system below, where a guard does more than to pass them on: it looks at its
 //! policy, or copies what the request takes or returns.
-ghost use Rattle.std.specs.Prelude.{◌≡◌, ◌<◌, ◌≤◌, ◌+◌, false, true, ◌⊎◌, ◌&&◌, min, nat_le, length, map, string_bytes, vec_len, vec_capacity, IfOk, IfErr, OnOk, OnErr, Ok, Err};
+ghost use Rattle.std.specs.Prelude.{◌≡◌, ◌<◌, ◌≤◌, ◌+◌, false, true, ◌⊎◌, ◌&&◌, min, nat_le, length, map, string_bytes, vec_len, vec_capacity, IfOk, IfErr, OnOk, OnErr, Ok, Err, ◌-◌};
 ghost use Rattle.duct_system.specs.Child.{IsUnasked};
-ghost use Rattle.duct_system.specs.EntryView.{Environment, Pipe, OpenRead, Create, Duplicate, Parent, Canonicalize, Spawn, Feed};
+ghost use Rattle.duct_system.specs.EntryView.{Environment, Pipe, OpenRead, Create, Duplicate, Parent, Canonicalize, Spawn, Feed, answer_of};
 ghost use Rattle.duct_system.specs.Job.{unpolled_job};
 ghost use Rattle.duct_system.specs.Journal.{GetsEnds, IsNew, IsRefused};
 ghost use Rattle.duct_system.specs.SpecView.{pair_text};
-ghost use Rattle.duct_system.specs.Streams.{stream_of, ends_of};
-ghost use Rattle.duct_system.specs.EntryView.{answer_of};
+ghost use Rattle.duct_system.specs.Streams.{stream_of, ends_of, end_of, StreamsFit};
 ghost use Rattle.duct_guard.specs.Closed.{ClosesFirst, SpendsEnds};
 ghost use Rattle.duct_guard.specs.Crew.{Joins, Leaves};
 ghost use Rattle.duct_guard.specs.Forwarded.{ForwardsEnd, IsForwarded, allows_spawn, refusal};
@@ -15,16 +14,15 @@ ghost use Rattle.duct_guard.specs.Requests.{request_view};
 ghost use Rattle.duct_guard.specs.Rules.{Rules};
 ghost use Rattle.duct_guard.specs.declared.counts.Held.{Held};
 ghost use Rattle.std.specs.Arc.{arc_value};
+ghost use Rattle.duct_system.specs.declared.system.Kind.TheVariants.{OutOfMemory};
 
-use crate::child::GuardedChild;
 use crate::counts::Held;
-use crate::crew::{Member, Notes, forget_ended, join, prepare};
-use crate::policy::Policy;
-use crate::request::Request;
-use crate::streams::close_ends;
+use crate::crew::{GuardedChild, Member, Notes, forget_ended, join, prepare};
+use crate::policy::{Policy, Request};
 use duct_system::copy::{copies_of, spec_copy};
+use duct_system::journal::Journal;
 use duct_system::spec::CommandSpec;
-use duct_system::system::{Child, Fault, Kind, Side, Stdio, System};
+use duct_system::system::{Child, Fault, Kind, Numbered, Side, Stdio, System};
 use std::alloc::Global;
 use std::sync::Arc;
 
@@ -331,6 +329,39 @@ pub(crate) fn start_shared_feed<S: System>(
         Err(_) => {
             sys.close(end);
             Err(no_memory())
+        }
+    }
+}
+
+/// Closes the ends of three streams in their order, as many as there is room for; without room an
+/// end is dropped.
+pub(crate) fn close_ends<S: System>(sys: &mut S, io: [Stdio<S::End>; 3], room: usize)
+    requires { room ≤ (S.journal_view sys.old).room }
+    ensures { ClosesFirst room (map S.End.number_of (ends_of io)) (S.journal_view sys.old)
+        (S.journal_view sys.new) }
+{
+    let [input, output, error] = io;
+    let room = close_end(sys, input, room);
+    let room = close_end(sys, output, room);
+    close_end(sys, error, room);
+}
+
+// Closes the end of a stream, if it has one and there is room for the entry; without room the end
+// is dropped. Returns what is left of the room.
+fn close_end<S: System>(sys: &mut S, stream: Stdio<S::End>, room: usize) -> usize
+    requires { room ≤ (S.journal_view sys.old).room }
+    ensures left { result ≡ room - length (end_of stream) }
+    ensures closes { ClosesFirst room (map S.End.number_of (end_of stream))
+        (S.journal_view sys.old) (S.journal_view sys.new) }
+{
+    match stream {
+        Stdio::Inherit | Stdio::Null => room,
+        Stdio::End(end) => {
+            if room == 0 {
+                return 0;
+            }
+            sys.close(end);
+            room - 1
         }
     }
 }

@@ -4,8 +4,8 @@ ghost use Rattle.duct_guard.specs.Allowed.{AreAllowed};
 ghost use Rattle.duct_guard.specs.Held.{Fits, IsBegun};
 ghost use Rattle.duct_guard.specs.Under.{Guards, IsLeft, IsRead, IsRun, guard_views};
 
-use crate::child::GuardedChild;
 use crate::counts::Counts;
+use crate::crew::GuardedChild;
 use crate::fixed::{Fixed, FixedRules};
 use crate::guard::Guarded;
 use crate::policy::Policy;

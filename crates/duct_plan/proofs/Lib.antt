@@ -1,6 +1,3 @@
-pub mod AskedThere
-pub mod Balance
-pub mod Changed
-pub mod Counted
 pub mod Planned
+pub mod Visited
 pub mod Written

@@ -1,13 +1,4 @@
-pub mod AskedOf
-pub mod Balance
-pub mod Commands
-pub mod DotForm
-pub mod EntryViews
-pub mod Found
 pub mod Inside
 pub mod PlanForm
 pub mod PlanView
 pub mod Previewed
-pub mod Source
-pub mod Step
-pub mod Variables

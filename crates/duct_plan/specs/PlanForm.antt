@@ -1,5 +1,6 @@
 -- The text of a plan: a line for each request, with its place.
-use Rattle.std.specs.Prelude.{ℕ, List, [], ◌∷◌, ◌+◌, codes, drop, length, Some, None, if◌then◌else◌}
+use Rattle.std.specs.Prelude.{ℕ, List, [], ◌∷◌, ◌++◌, ◌+◌, codes, drop, length, Some, None, if◌then◌else◌}
+use Rattle.std.specs.Fmt.{decimal}
 use Rattle.std.specs.declared.option.Option.{Option}
 use Rattle.duct_system.specs.SpecView.{Vars}
 use Rattle.duct_system.specs.declared.spec.Stream.{Stream}
@@ -8,7 +9,19 @@ use Rattle.duct_start.specs.Plan.{Plan, is_canonical, program_of}
 use Rattle.duct_start.specs.Step.{Item, AskEnvironment, AskPipe, AskOpenRead, AskCreate, AskCanonicalize, AskSpawn, AskFeed, AskDrain, AskReader}
 use Rattle.duct_start.specs.Surroundings.{Surroundings, Target, Parents, Nothing, ReaderAt, WriterAt, FileAt, Lends, VariableChange, Sets, Removes, Replaces}
 use Rattle.duct_tree.specs.Text.{Form, plain, quote, before, joined, form_text, is_form_printable}
-use Rattle.duct_report.specs.EntryForm.{of_text, of_end, folder_form}
+
+-- words, then a text in quotes
+abbrev pub of_text : List ℕ → List ℕ → Form
+of_text words text = joined (plain words ∷ quote text ∷ [])
+
+-- words, then the place of a request
+abbrev pub of_place : List ℕ → ℕ → Form
+of_place words place = plain (words ++ decimal place)
+
+-- the folder of a command, if it has one
+abbrev pub folder_form : Option (List ℕ) → Form
+folder_form (Some folder) = of_text (codes " in ") folder
+folder_form None = plain []
 
 -- where a stream goes that goes to this stream of the parent
 abbrev pub parents_text : Stream → Stream → List ℕ
@@ -24,9 +37,9 @@ parents_text Out Err = codes "the parent's stderr"
 abbrev pub target_form : {E : Type 0} → Stream → Target E → Form
 target_form stream (Parents parents) = plain (parents_text stream parents)
 target_form stream Nothing = plain (codes "nothing")
-target_form stream (ReaderAt place) = of_end (codes "pipe ") place
-target_form stream (WriterAt place) = of_end (codes "pipe ") place
-target_form stream (FileAt place) = of_end (codes "file ") place
+target_form stream (ReaderAt place) = of_place (codes "pipe ") place
+target_form stream (WriterAt place) = of_place (codes "pipe ") place
+target_form stream (FileAt place) = of_place (codes "file ") place
 target_form stream (Lends end) = plain (codes "an end of the caller")
 
 -- some variables, with a space before each
@@ -62,7 +75,7 @@ program_form found words =
 -- how many hooks may change the command, if any
 abbrev pub hooks_form : {A : Type 0} → List A → Form
 hooks_form [] = plain []
-hooks_form (hook ∷ hooks) = of_end (codes ", hooks ") (length (hook ∷ hooks))
+hooks_form (hook ∷ hooks) = of_place (codes ", hooks ") (length (hook ∷ hooks))
 
 -- a stream of a command, by its name, and where it goes
 unfoldable pub stream_form : {E : Type 0} → List ℕ → Stream → Target E → Form
@@ -98,14 +111,14 @@ item_form (AskOpenRead path) = of_text (codes "open of ") path
 item_form (AskCreate path) = of_text (codes "create of ") path
 item_form (AskCanonicalize program) = of_text (codes "canonical path of ") program
 item_form (AskSpawn found words) = spawn_form found words
-item_form (AskFeed place bytes) = of_end (codes "input worker of pipe ") place
-item_form (AskDrain place) = of_end (codes "capture worker of pipe ") place
-item_form (AskReader place) = of_end (codes "reader of pipe ") place
+item_form (AskFeed place bytes) = of_place (codes "input worker of pipe ") place
+item_form (AskDrain place) = of_place (codes "capture worker of pipe ") place
+item_form (AskReader place) = of_place (codes "reader of pipe ") place
 
 -- the line of the request at this place
 unfoldable pub line_form : {E H : Type 0} → ℕ → Item E H → Form
 line_form place item =
-    joined (of_end [] place ∷ plain (codes " ") ∷ item_form item ∷ plain (codes "\n") ∷ [])
+    joined (of_place [] place ∷ plain (codes " ") ∷ item_form item ∷ plain (codes "\n") ∷ [])
 
 -- a line for each request, the first of which has this place
 abbrev pub lines_form : {E H : Type 0} → ℕ → List (Item E H) → Form

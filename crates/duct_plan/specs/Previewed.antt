@@ -1,5 +1,5 @@
 -- What is printed of a line of words before anything runs.
-use Rattle.std.specs.Prelude.{◌≡◌, ℕ, List, [], ◌∷◌, ◌++◌, Bool, true, false, IfSome, codes, if◌then◌else◌}
+use Rattle.std.specs.Prelude.{◌≡◌, ℕ, List, [], ◌∷◌, ◌++◌, Bool, true, false, IfSome, IsOk, codes, if◌then◌else◌}
 use Rattle.std.specs.Str.{bytes_eq}
 use Rattle.std.specs.declared.result.Result.{Result}
 use Rattle.duct_start.specs.Plan.{plan_of_reader}
@@ -9,7 +9,6 @@ use Rattle.duct_program.specs.Line.{meant}
 use Rattle.duct_program.specs.Printed.{usage_text}
 use Rattle.duct_program.specs.declared.program.NoHook.{NoHook}
 use Rattle.duct_program.specs.declared.usage.Usage.{Usage}
-use Rattle.duct_plan.specs.DotForm.{plan_dot}
 use Rattle.duct_plan.specs.PlanForm.{plan_text}
 use Rattle.duct_plan.specs.declared.words.NoEnd.{NoEnd}
 
@@ -22,20 +21,16 @@ abbrev pub IsPreview : {E H : Type 0} → Result (TreeView E H) Usage → List �
 IsPreview line text =
     Means line (λ tree. IfSome (plan_text (plan_of_reader tree)) (λ known. text ≡ known))
 
--- this is the drawing of what a line's start requests, where one is promised
-abbrev pub IsDrawing : {E H : Type 0} → Result (TreeView E H) Usage → List ℕ → Type 0
-IsDrawing line text =
-    Means line (λ tree. IfSome (plan_dot (plan_of_reader tree)) (λ known. text ≡ known))
-
 -- what the program's words ask for: whether a drawing, and the words of the line
 abbrev pub asked_of : List (List ℕ) → Bool × List (List ℕ)
 asked_of [] = (false, [])
 asked_of (word ∷ words) =
     if bytes_eq word (codes "--dot") then (true, words) else (false, word ∷ words)
 
--- this is what the program prints of a line: its drawing, or its text
+-- this is what the program prints of a line: its drawing, on whose text nothing is promised, or
+-- the text of what its start requests
 abbrev pub IsPrinted : Bool × List (List ℕ) → List ℕ → Type 0
-IsPrinted (true, words) text = IsDrawing (line_of words) text
+IsPrinted (true, words) text = IsOk (line_of words)
 IsPrinted (false, words) text = IsPreview (line_of words) text
 
 -- the line of a usage error

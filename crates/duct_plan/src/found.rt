@@ -1,14 +1,23 @@
 //! What a command finds on its path to the root: its folder, the changes of variables, where its
 //! streams go, and its hooks.
-ghost use Rattle.std.specs.Prelude.{◌≡◌, map};
-ghost use Rattle.std.specs.Option.{option_map};
-ghost use Rattle.duct_system.specs.Name.{is_same_name};
-ghost use Rattle.duct_system.specs.SpecView.{last_value, pair_text, said_of, spelled, var_view, variable_in};
-ghost use Rattle.duct_start.specs.Surroundings.{variable};
-ghost use Rattle.duct_plan.specs.Found.{change_of, pair_seen};
+ghost use Rattle.std.specs.Prelude.{◌≡◌, IfOk};
+ghost use Rattle.duct_system.specs.declared.spec.Stream.TheVariants.{In};
+ghost use Rattle.duct_run.proofs.PlanInward.{surroundings_within};
+ghost use Rattle.duct_start.specs.Lookup.{resolved_turn};
+ghost use Rattle.duct_start.specs.Row.{says_change};
+ghost use Rattle.duct_start.specs.Step as node;
+ghost use Rattle.duct_start.specs.Step.{step_if_setting, step_of_row, step_of_setting};
+ghost use Rattle.duct_start.specs.Surroundings as outwards;
+ghost use Rattle.duct_start.specs.Surroundings.{root_surroundings};
+ghost use Rattle.duct_tree.specs.EffectView.{effect_view, input_route_view, opening_view, output_route_view, says_view};
+ghost use Rattle.duct_plan.specs.Inside.{with_setting};
+ghost use Rattle.duct_plan.specs.PlanView.{change_of, found_of, target_of};
 
-use duct::Stream;
+use duct::{Side, Stream};
 use duct_base::names::EnvNameString;
+use duct_run::scope::Setting;
+use duct_tree::effect::{Effect, InputRoute, Opening, OutputRoute};
+use std::alloc::{AllocError, Global};
 use std::collections::BTreeMap;
 use std::convert::AsStr;
 
@@ -58,100 +67,171 @@ pub struct Surroundings<'t, E, H> {
     pub hooks: Vec<(&'t H, &'t [E])>,
 }
 
-/// Returns the spelling and the value of a variable, if there is one. The nearest change that names
-/// it or replaces all variables decides the value. A spelling that is found further out than that
-/// change is kept. If no change decides, `pairs` do, one after the other.
-pub fn variable<'t>(
-    pairs: &'t [(String, String)],
-    changes: &[VariableChange<'t>],
-    name: &str,
-) -> Option<(&'t str, &'t str)>
-    ensures { option_map pair_seen result
-        ≡ variable (map pair_text pairs.now) (map change_of changes.now) name.now }
-{
-    let Some((change, further)) = changes.split_first() else {
-        return said_of(pairs, name);
-    };
-    match *change {
-        VariableChange::Sets(other, value) => {
-            let found = variable(pairs, further, name);
-            if is_same(name, other) {
-                Some((spelled(other, found), value))
-            } else {
-                found
+impl<'t, E, H> Surroundings<'t, E, H> {
+    /// Returns what a command finds that no node is around.
+    pub(crate) fn at_root(alloc: Global) -> Surroundings<'t, E, H>
+        ensures { found_of result ≡ root_surroundings }
+    {
+        Surroundings {
+            folder: None,
+            changes: Vec::new(alloc),
+            input: Target::Parents(Stream::In),
+            output: Target::Parents(Stream::Out),
+            error: Target::Parents(Stream::Err),
+            hooks: Vec::new(alloc),
+        }
+    }
+
+    /// Returns the same once more. Fails only on allocation failure.
+    pub(crate) fn copied(&self, alloc: Global) -> Result<Surroundings<'t, E, H>, AllocError>
+        ensures { IfOk result (λ copy. found_of copy ≡ found_of self.now) }
+    {
+        Ok(Surroundings {
+            folder: self.folder,
+            changes: copied(alloc, self.changes.as_slice())?,
+            input: self.input,
+            output: self.output,
+            error: self.error,
+            hooks: copied(alloc, self.hooks.as_slice())?,
+        })
+    }
+
+    /// Returns what is found where stdin goes to this target.
+    pub(crate) fn with_input(self, input: Target<'t, E>) -> Surroundings<'t, E, H>
+        ensures { found_of result ≡ record (found_of self.entry) { input = target_of input.entry } }
+    {
+        Surroundings { input, ..self }
+    }
+
+    /// Returns what is found where stdout goes to this target.
+    pub(crate) fn with_output(self, output: Target<'t, E>) -> Surroundings<'t, E, H>
+        ensures { found_of result
+            ≡ record (found_of self.entry) { output = target_of output.entry } }
+    {
+        Surroundings { output, ..self }
+    }
+
+    /// Returns what is found inside a node at this place that does this. Fails only on allocation
+    /// failure.
+    pub(crate) fn inside(
+        self,
+        effect: Effect<'t, E, H>,
+        place: usize,
+    ) -> Result<Surroundings<'t, E, H>, AllocError>
+        ensures { IfOk result (λ found. found_of found
+            ≡ surroundings_within (step_of_row (effect_view effect.entry)) place
+            (found_of self.entry)) }
+    {
+        let input = self.input_inside(effect.input, effect.opening, place);
+        let output = self.output_inside(effect.output, effect.opening, place);
+        let error = self.output_inside(effect.error, effect.opening, place);
+        let found = self.with_setting(effect.setting)?;
+        Ok(Surroundings {
+            input,
+            output,
+            error,
+            ..found
+        })
+    }
+
+    // Returns where stdin goes that takes this route inside a node at this place.
+    fn input_inside(
+        &self,
+        route: InputRoute<'t, E>,
+        opening: Opening<'t>,
+        place: usize,
+    ) -> Target<'t, E>
+        ensures { target_of result ≡ resolved_turn (node.turn_of (λ stream. In)
+            (opening_view opening.entry) place (input_route_view route.entry))
+            (outwards.target_of (found_of self.now)) }
+    {
+        match route {
+            InputRoute::Outside => self.input,
+            InputRoute::Nothing => Target::Nothing,
+            InputRoute::Lent(end) => Target::Lends(end),
+            InputRoute::Opened => opened_target(opening, place),
+        }
+    }
+
+    // Returns where stdout or stderr goes that takes this route inside a node at this place.
+    fn output_inside(
+        &self,
+        route: OutputRoute<'t, E>,
+        opening: Opening<'t>,
+        place: usize,
+    ) -> Target<'t, E>
+        ensures { target_of result ≡ resolved_turn (node.turn_of node.stream_on
+            (opening_view opening.entry) place (output_route_view route.entry))
+            (outwards.target_of (found_of self.now)) }
+    {
+        match route {
+            OutputRoute::Outside(Side::Out) => self.output,
+            OutputRoute::Outside(Side::Err) => self.error,
+            OutputRoute::Nothing => Target::Nothing,
+            OutputRoute::Lent(end) => Target::Lends(end),
+            OutputRoute::Opened => opened_target(opening, place),
+        }
+    }
+
+    // Returns what is found inside a node that sets this, if it sets something.
+    fn with_setting(
+        self,
+        setting: Option<Setting<'t, E, H>>,
+    ) -> Result<Surroundings<'t, E, H>, AllocError>
+        ensures { IfOk result (λ found. found_of found
+            ≡ with_setting (step_if_setting (says_view setting.entry)) (found_of self.entry)) }
+    {
+        match setting {
+            None => Ok(self),
+            Some(Setting::Dir(path)) => Ok(Surroundings {
+                folder: Some(path),
+                ..self
+            }),
+            Some(Setting::Env(name, value)) => {
+                self.with_change(VariableChange::Sets(name.as_str(), value))
+            }
+            Some(Setting::EnvRemove(name)) => {
+                self.with_change(VariableChange::Removes(name.as_str()))
+            }
+            Some(Setting::FullEnv(vars)) => self.with_change(VariableChange::Replaces(vars)),
+            Some(Setting::BeforeSpawn(hook, ends)) => {
+                let mut found = self;
+                found.hooks.push((hook, ends))?;
+                Ok(found)
             }
         }
-        VariableChange::Removes(other) => {
-            if is_same(name, other) {
-                return None;
-            }
-            variable(pairs, further, name)
-        }
-        VariableChange::Replaces(vars) => variable_in(vars, name),
+    }
+
+    // Returns what is found inside a node that changes the variables.
+    fn with_change(self, change: VariableChange<'t>) -> Result<Surroundings<'t, E, H>, AllocError>
+        ensures { IfOk result (λ found. found_of found ≡ with_setting
+            (step_of_setting (says_change (change_of change.entry))) (found_of self.entry)) }
+    {
+        let mut found = self;
+        found.changes.insert(0, change)?;
+        Ok(found)
     }
 }
 
-/// Returns the first spelling and the last value of a name in these pairs, if it is there.
-fn said_of<'t>(pairs: &'t [(String, String)], name: &str) -> Option<(&'t str, &'t str)>
-    ensures { option_map pair_seen result ≡ said_of name.now (map pair_text pairs.now) }
+// Returns where a stream goes that leads to what a node at this place opens.
+fn opened_target<'t, E>(opening: Opening<'t>, place: usize) -> Target<'t, E>
+    ensures { target_of result ≡ node.opened_target (opening_view opening.entry) place }
 {
-    match pairs.split_first() {
-        None => None,
-        Some((first, rest)) => {
-            if is_same(name, first.0.as_str()) {
-                Some((first.0.as_str(), last_value(rest, name, first.1.as_str())))
-            } else {
-                said_of(rest, name)
-            }
-        }
+    match opening {
+        Opening::Nothing => Target::Nothing,
+        Opening::Input(_) => Target::ReaderAt(place),
+        Opening::Read(_) | Opening::Create(_) => Target::FileAt(place),
+        Opening::Capture(_) => Target::WriterAt(place),
     }
 }
 
-/// Returns the last value of a name in these pairs, or `value` if it isn't there.
-fn last_value<'t>(pairs: &'t [(String, String)], name: &str, value: &'t str) -> &'t str
-    ensures { result.now ≡ last_value name.now value.now (map pair_text pairs.now) }
+// Returns a copy of these items.
+fn copied<T: Copy>(alloc: Global, items: &[T]) -> Result<Vec<T>, AllocError>
+    ensures { IfOk result (λ copy. copy.items ≡ items.now) }
 {
-    match pairs.split_first() {
-        None => value,
-        Some((first, rest)) => {
-            if is_same(name, first.0.as_str()) {
-                last_value(rest, name, first.1.as_str())
-            } else {
-                last_value(rest, name, value)
-            }
-        }
+    let mut copy = Vec::new(alloc);
+    for item in items {
+        copy.push(*item)?;
     }
-}
-
-/// Returns the spelling of a name: the one that was found, or its own if none was found.
-fn spelled<'t>(name: &'t str, found: Option<(&'t str, &'t str)>) -> &'t str
-    ensures { result.now ≡ spelled name.now (option_map pair_seen found.entry) }
-{
-    match found {
-        Some((spelling, _)) => spelling,
-        None => name,
-    }
-}
-
-/// Returns whether two names are names of the same variable.
-fn is_same(name: &str, other: &str) -> bool
-    ensures { result ≡ is_same_name name.now other.now }
-{
-    name.eq_ignore_ascii_case(other)
-}
-
-/// Returns the spelling and the value of a name in a map, if it is there.
-fn variable_in<'t>(
-    vars: &'t BTreeMap<EnvNameString, String>,
-    name: &str,
-) -> Option<(&'t str, &'t str)>
-    ensures { option_map pair_seen result
-        ≡ variable_in name.now (map var_view vars.now.entries) }
-{
-    for (other, value) in vars.iter() {
-        if other.is(name) {
-            return Some((other.as_str(), value.as_str()));
-        }
-    }
-    None
+    Ok(copy)
 }

@@ -1,8 +1,4 @@
 //! The items of a plan, each a request of a start, and the plan itself.
-ghost use Rattle.std.specs.Prelude.{◌≤◌, ◌↔◌, IsNone, IfSome, count_by};
-ghost use Rattle.duct_plan.specs.Commands.{is_spawn, IsCommandAt};
-ghost use Rattle.duct_plan.specs.PlanView.{plan_view};
-
 use crate::found::Surroundings;
 use std::fmt;
 
@@ -51,25 +47,5 @@ impl<E, H> fmt::Debug for Item<'_, E, H> {
             Item::Drain(place) => write!(f, "Drain({place:?})"),
             Item::Reader(place) => write!(f, "Reader({place:?})"),
         }
-    }
-}
-
-impl<E, H> Plan<'_, E, H> {
-    /// Returns the place of the spawn of command `i`, or `None` if the plan has no such command.
-    /// Commands are counted from 0, in the order of their items.
-    pub fn command(&self, i: usize) -> Option<usize>
-        ensures some { IfSome result (IsCommandAt i (plan_view self.now).items) }
-        ensures none { IsNone result ↔ (count_by is_spawn (plan_view self.now).items ≤ i) }
-    {
-        let mut earlier = 0;
-        for place in 0..self.items.len() {
-            if let Item::Spawn(_, _) = self.items[place] {
-                if earlier == i {
-                    return Some(place);
-                }
-                earlier += 1;
-            }
-        }
-        None
     }
 }

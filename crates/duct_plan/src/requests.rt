@@ -1,22 +1,21 @@
 //! The requests of a start, computed from the tree alone.
 ghost use Rattle.std.specs.Prelude.{◌≡◌, ◌+◌, ◌<◌, IfOk, OnOk, map, string_bytes};
 ghost use Rattle.duct_system.specs.declared.system.Side.TheVariants as side;
+ghost use Rattle.duct_run.proofs.PlanInward.{plan_inward};
 ghost use Rattle.duct_start.specs.Plan.{with_item, with_capture, with_opening, place_for, with_closing, program_of, is_canonical, with_command, initial_plan, with_drain, with_reader, plan_of, plan_of_reader};
 ghost use Rattle.duct_start.specs.Step.{opening_of, closing_of};
 ghost use Rattle.duct_tree.specs.EffectView.{opening_view};
 ghost use Rattle.duct_tree.specs.NodeView.{node_view};
 ghost use Rattle.duct.specs.TreeView.{tree_view};
-ghost use Rattle.duct_plan.specs.Found.{found_of};
+ghost use Rattle.duct_plan.specs.PlanView.{found_of};
 ghost use Rattle.duct_plan.specs.PlanView.{item_of, plan_view};
-ghost use Rattle.duct_plan.specs.Inside.{after_tasks, plan_inside, tasks_left, tasks_of_tree};
+ghost use Rattle.duct_plan.specs.Inside.{after_tasks, tasks_left, tasks_of_tree};
 
-use crate::found::Surroundings;
-use crate::inside::{at_root, inside};
+use crate::found::{Surroundings, Target};
 use crate::items::{Item, Plan};
-use crate::step::{capture_step, left_step, modifier_step, right_step};
 use duct::tree::Node;
 use duct::{Expression, Side, asks_canonical};
-use duct_tree::effect::Opening;
+use duct_tree::effect::{Opening, effect_of};
 use std::alloc::{AllocError, Global};
 
 /// Returns the plan of a start. The workers of the capture pipes come after all commands, stdout's
@@ -28,7 +27,12 @@ pub fn plan<'t, E: Drop, H: Drop>(
     ensures { IfOk result (λ plan. plan_view plan ≡ plan_of (tree_view expression.now)) }
 {
     let first = initial_plan(alloc)?;
-    let plan = plan_of_subtree(alloc, at_root(alloc), expression.root(), first)?;
+    let plan = plan_of_subtree(
+        alloc,
+        Surroundings::at_root(alloc),
+        expression.root(),
+        first,
+    )?;
     let (out, err) = (plan.out, plan.err);
     with_drain(err, with_drain(out, plan)?)
 }
@@ -44,7 +48,7 @@ pub fn plan_of_reader<'t, E: Drop, H: Drop>(
     let first = initial_plan(alloc)?;
     let place = first.items.len();
     let plan = with_output_capture(first)?;
-    let found = inside(alloc, capture_step(), place, &at_root(alloc))?;
+    let found = Surroundings::at_root(alloc).with_output(Target::WriterAt(place));
     let plan = plan_of_subtree(alloc, found, expression.root(), plan)?;
     let (out, err) = (plan.out, plan.err);
     with_reader(out, with_drain(err, plan)?)
@@ -175,7 +179,7 @@ fn plan_of_subtree<'t, E: Drop, H: Drop>(
 ) -> Result<Plan<'t, E, H>, AllocError>
     ensures { IfOk result
         (λ after. plan_view after
-        ≡ plan_inside (found_of found.entry) (node_view node.now) (plan_view plan.entry)) }
+        ≡ plan_inward (found_of found.entry) (node_view node.now) (plan_view plan.entry)) }
 {
     let mut tasks = Vec::new(alloc);
     tasks.push(Task::Visit(found, node))?;
@@ -201,7 +205,7 @@ fn with_visited<'t, E: Drop, H: Drop>(
     ensures plan { IfOk result
         (λ after. after_tasks tasks.new.items (plan_view after)
         ≡ after_tasks tasks.old.items
-        (plan_inside (found_of found.entry) (node_view node.now) (plan_view plan.entry))) }
+        (plan_inward (found_of found.entry) (node_view node.now) (plan_view plan.entry))) }
     ensures fewer { OnOk result
         (tasks_left tasks.new.items < tasks_left tasks.old.items + tasks_of_tree
         (node_view node.now)) }
@@ -210,19 +214,18 @@ fn with_visited<'t, E: Drop, H: Drop>(
         Node::Cmd(words) => with_command(found, words.as_slice(), plan),
         Node::Pipe(left, right) => {
             let place = plan.items.len();
-            let right_found = inside(alloc, right_step(), place, &found)?;
-            tasks.push(Task::Visit(right_found, right))?;
-            let left_found = inside(alloc, left_step(), place, &found)?;
-            tasks.push(Task::Visit(left_found, left))?;
+            let reading = found.copied(alloc)?.with_input(Target::ReaderAt(place));
+            tasks.push(Task::Visit(reading, right))?;
+            let writing = found.with_output(Target::WriterAt(place));
+            tasks.push(Task::Visit(writing, left))?;
             with_item(Item::Pipe, plan)
         }
         Node::Io(modifier, inner) => {
-            let step = modifier_step(modifier);
-            let place = place_for(step.opening, &plan);
-            tasks.push(Task::Close(step.opening, place))?;
-            let inner_found = inside(alloc, step, place, &found)?;
-            tasks.push(Task::Visit(inner_found, inner))?;
-            with_opening(step.opening, plan)
+            let effect = effect_of(modifier);
+            let place = place_for(effect.opening, &plan);
+            tasks.push(Task::Close(effect.opening, place))?;
+            tasks.push(Task::Visit(found.inside(effect, place)?, inner))?;
+            with_opening(effect.opening, plan)
         }
     }
 }

@@ -4,10 +4,8 @@ ghost use Rattle.std.specs.Fmt.{DisplaysOnOk};
 ghost use Rattle.std.specs.Option.{option_copied};
 ghost use Rattle.duct_system.specs.SpecView.{var_view};
 ghost use Rattle.duct_tree.specs.Text.{printed};
-ghost use Rattle.duct_report.specs.EntryForm.{folder_form};
-ghost use Rattle.duct_plan.specs.Found.{change_of, found_of, target_of};
-ghost use Rattle.duct_plan.specs.PlanView.{item_of, plan_view};
-ghost use Rattle.duct_plan.specs.PlanForm.{arguments_form, change_form, changes_form, command_form, hooks_form, item_form, line_form, lines_form, parents_text, plan_form, program_form, settings_form, spawn_form, stream_form, streams_form, target_form, variables_form};
+ghost use Rattle.duct_plan.specs.PlanView.{change_of, found_of, item_of, target_of};
+ghost use Rattle.duct_plan.specs.PlanForm.{arguments_form, change_form, changes_form, command_form, folder_form, hooks_form, item_form, line_form, lines_form, parents_text, program_form, settings_form, spawn_form, stream_form, streams_form, target_form, variables_form};
 
 use crate::found::{Surroundings, Target, VariableChange};
 use crate::items::{Item, Plan};
@@ -32,16 +30,8 @@ impl<E, H> fmt::Display for PlanText<'_, '_, E, H> {
     ghost output = { λ text. plan_text (plan_view text.0.now) };
 
     fn fmt<W: fmt::Write>(&self, f: &mut fmt::Formatter<W>) -> fmt::Result {
-        write_plan(self.0, f)
+        write_lines(self.0.items.as_slice(), f)
     }
-}
-
-// Writes the lines of a plan.
-fn write_plan<E, H, W: fmt::Write>(plan: &Plan<'_, E, H>, f: &mut fmt::Formatter<W>) -> fmt::Result
-    ensures { DisplaysOnOk W.write_str_gives f.old result
-        (printed (plan_form (plan_view plan.now))) f.new }
-{
-    write_lines(plan.items.as_slice(), f)
 }
 
 // Writes a line for each request.
@@ -75,12 +65,9 @@ fn write_line<E, H, W: fmt::Write>(
     f.write_str("\n")
 }
 
-/// Writes one request as a plan's line has it, without its place. Fails where the write fails.
+// Writes one request.
 #[tactic(auto, unfolding(crate::specs::PlanForm::item_form))]
-pub fn write_item<E, H, W: fmt::Write>(
-    item: &Item<'_, E, H>,
-    f: &mut fmt::Formatter<W>,
-) -> fmt::Result
+fn write_item<E, H, W: fmt::Write>(item: &Item<'_, E, H>, f: &mut fmt::Formatter<W>) -> fmt::Result
     ensures { DisplaysOnOk W.write_str_gives f.old result
         (printed (item_form (item_of item.now))) f.new }
 {

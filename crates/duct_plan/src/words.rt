@@ -1,7 +1,7 @@
 //! What a line of words will request.
-ghost use Rattle.std.specs.Prelude.{map, string_bytes, IfErr, IfOk};
+ghost use Rattle.std.specs.Prelude.{map, string_bytes, IfErr, IfOk, IsOk, OnOk};
 ghost use Rattle.duct_program.specs.Parsed.{RefusesAs};
-ghost use Rattle.duct_plan.specs.Previewed.{IsDrawing, IsPreview, line_of};
+ghost use Rattle.duct_plan.specs.Previewed.{IsPreview, line_of};
 
 use crate::dot::PlanDot;
 use crate::requests::plan_of_reader;
@@ -33,8 +33,7 @@ pub fn preview(alloc: Global, args: &[String]) -> Result<String, Usage>
 /// language: that of the start of their expression, as `PlanDot` has it. Nothing is requested and
 /// nothing runs. Fails as `preview` does.
 pub fn drawing(alloc: Global, args: &[String]) -> Result<String, Usage>
-    ensures text { IfOk result
-        (λ text. IsDrawing (line_of (map string_bytes args.now)) (string_bytes text)) }
+    ensures known { OnOk result (IsOk (line_of (map string_bytes args.now))) }
     ensures usage { IfErr result
         (λ usage. RefusesAs usage (line_of (map string_bytes args.now))) }
 {

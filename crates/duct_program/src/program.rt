@@ -11,7 +11,7 @@ ghost use Rattle.duct_program.specs.declared.failure.Failure.TheVariants as fail
 ghost use Rattle.duct_program.specs.declared.usage.Usage.{Usage};
 ghost use Rattle.duct_program.specs.declared.usage.Usage.TheVariants.{Memory};
 
-use crate::arguments::line;
+use crate::expression::line;
 use crate::failure::Failure;
 use duct::{CommandSpec, Expression, Fault, Hook, Pool, System};
 use duct_run::views::Viewed;

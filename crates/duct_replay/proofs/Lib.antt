@@ -1,3 +1,14 @@
+pub mod Bytes
 pub mod Following
+pub mod JournalLines
+pub mod JournalReading
+pub mod Judging
+pub mod Line
+pub mod Lists
 pub mod Noting
+pub mod OneLine
+pub mod Ordered
+pub mod Reading
 pub mod Replaying
+pub mod RoundTrip
+pub mod Shallow

@@ -9,7 +9,7 @@ use Rattle.std.specs.declared.option.Option.{Option}
 use Rattle.std.specs.declared.result.Result.{Result}
 use Rattle.duct_replay.specs.Answers.{no_memory}
 use Rattle.duct_replay.specs.Same.{Shared, bytes_of, had}
-use Rattle.duct_replay.specs.declared.reader.ReplayReader.{ReplayReader}
+use Rattle.duct_replay.specs.declared.replayed.ReplayReader.{ReplayReader}
 use Rattle.duct_system.specs.declared.system.Fault.{Fault}
 
 -- the bytes that are left, if it has bytes

@@ -3,9 +3,9 @@ use Rattle.std.specs.Prelude.{◌-◌, ◌^◌, min, if◌then◌else◌}
 use Rattle.duct_system.specs.Child.{ChildView}
 use Rattle.duct_system.specs.Job.{JobView}
 use Rattle.duct_system.specs.declared.system.Said.TheVariants as said
-use Rattle.duct_replay.specs.declared.child.ReplayChild.{ReplayChild}
-use Rattle.duct_replay.specs.declared.worker.ReplayFeed.{ReplayFeed}
-use Rattle.duct_replay.specs.declared.worker.ReplayDrain.{ReplayDrain}
+use Rattle.duct_replay.specs.declared.replayed.ReplayChild.{ReplayChild}
+use Rattle.duct_replay.specs.declared.replayed.ReplayFeed.{ReplayFeed}
+use Rattle.duct_replay.specs.declared.replayed.ReplayDrain.{ReplayDrain}
 use Rattle.duct_replay.specs.Same.{Shared}
 
 -- a child; its id is its number, at most 2 ^ 32 - 1

@@ -14,6 +14,9 @@ use duct_system::system::{Entry, Fault, Kind, Side, Stdio};
 use std::alloc::Global;
 use std::sync::Arc;
 
+/// The result that is recorded for a request, if the request is what is recorded next.
+pub(crate) type Found<T> = Option<Result<T, Fault>>;
+
 /// Returns the fault of a request that isn't what is recorded next.
 pub(crate) fn unrecorded() -> Fault
     ensures { result ≡ unrecorded }
@@ -62,7 +65,7 @@ fn fits_pipe(answer: &Result<(u64, u64), Fault>, count: u64) -> bool
 pub(crate) fn found_environment(
     alloc: Global,
     next: Option<&Entry>,
-) -> Result<Option<Result<(Vec<(String, String)>, Vec<(String, String)>), Fault>>, Fault>
+) -> Result<Found<(Vec<(String, String)>, Vec<(String, String)>)>, Fault>
     ensures found { IfOk result (λ found. FindsTwice Environment
         (λ pairs. map pair_text pairs.items) (next_view next.entry) found) }
     ensures err { IfErr result (λ fault. fault ≡ no_memory) }
@@ -72,102 +75,74 @@ pub(crate) fn found_environment(
     };
     match answer {
         Ok(pairs) => {
-            let Ok(one) = copies_of(alloc, pairs.as_slice()) else {
-                return Err(no_memory());
-            };
-            match copies_of(alloc, pairs.as_slice()) {
-                Ok(other) => Ok(Some(Ok((one, other)))),
-                Err(_) => Err(no_memory()),
-            }
+            let one = copies_of(alloc, pairs.as_slice()).map_err(|_| no_memory())?;
+            let other = copies_of(alloc, pairs.as_slice()).map_err(|_| no_memory())?;
+            Ok(Some(Ok((one, other))))
         }
         Err(fault) => Ok(Some(Err(*fault))),
     }
 }
 
 /// Returns the recorded result of opening a pipe.
-pub(crate) fn found_pipe(next: Option<&Entry>, count: u64) -> Option<Result<(u64, u64), Fault>>
+pub(crate) fn found_pipe(next: Option<&Entry>, count: u64) -> Found<(u64, u64)>
     ensures { Finds Pipe (FitsPipe count) (next_view next.entry) result }
 {
     let Some(Entry::Pipe(answer)) = next else {
         return None;
     };
-    if fits_pipe(answer, count) {
-        Some(*answer)
-    } else {
-        None
-    }
+    fits_pipe(answer, count).then_some(*answer)
 }
 
 /// Returns the recorded result of opening this file for reading.
-pub(crate) fn found_open_read(
-    next: Option<&Entry>,
-    path: &str,
-    count: u64,
-) -> Option<Result<u64, Fault>>
+pub(crate) fn found_open_read(next: Option<&Entry>, path: &str, count: u64) -> Found<u64>
     ensures { Finds (OpenRead path.now) (FitsNumber count) (next_view next.entry) result }
 {
     let Some(Entry::OpenRead(other, answer)) = next else {
         return None;
     };
-    if other.as_str() == path && fits(answer, count) {
-        Some(*answer)
-    } else {
-        None
+    if other.as_str() != path || !fits(answer, count) {
+        return None;
     }
+    Some(*answer)
 }
 
 /// Returns the recorded result of opening this file for writing.
-pub(crate) fn found_create(
-    next: Option<&Entry>,
-    path: &str,
-    count: u64,
-) -> Option<Result<u64, Fault>>
+pub(crate) fn found_create(next: Option<&Entry>, path: &str, count: u64) -> Found<u64>
     ensures { Finds (Create path.now) (FitsNumber count) (next_view next.entry) result }
 {
     let Some(Entry::Create(other, answer)) = next else {
         return None;
     };
-    if other.as_str() == path && fits(answer, count) {
-        Some(*answer)
-    } else {
-        None
+    if other.as_str() != path || !fits(answer, count) {
+        return None;
     }
+    Some(*answer)
 }
 
 /// Returns the recorded result of duplicating this end.
-pub(crate) fn found_duplicate(
-    next: Option<&Entry>,
-    lent: u64,
-    count: u64,
-) -> Option<Result<u64, Fault>>
+pub(crate) fn found_duplicate(next: Option<&Entry>, lent: u64, count: u64) -> Found<u64>
     ensures { Finds (Duplicate lent) (FitsNumber count) (next_view next.entry) result }
 {
     let Some(Entry::Duplicate(other, answer)) = next else {
         return None;
     };
-    if *other == lent && fits(answer, count) {
-        Some(*answer)
-    } else {
-        None
+    if *other != lent || !fits(answer, count) {
+        return None;
     }
+    Some(*answer)
 }
 
 /// Returns the recorded result of asking for this stream of the parent.
-pub(crate) fn found_parent(
-    next: Option<&Entry>,
-    side: Side,
-    count: u64,
-) -> Option<Result<u64, Fault>>
+pub(crate) fn found_parent(next: Option<&Entry>, side: Side, count: u64) -> Found<u64>
     ensures { Finds (Parent side) (FitsNumber count) (next_view next.entry) result }
 {
     let Some(Entry::Parent(other, answer)) = next else {
         return None;
     };
-    if *other == side && fits(answer, count) {
-        Some(*answer)
-    } else {
-        None
+    if *other != side || !fits(answer, count) {
+        return None;
     }
+    Some(*answer)
 }
 
 /// Returns the recorded canonical path of this path, twice. Fails only with `OutOfMemory`, where
@@ -176,7 +151,7 @@ pub(crate) fn found_canonicalize(
     alloc: Global,
     next: Option<&Entry>,
     path: &str,
-) -> Result<Option<Result<(String, String), Fault>>, Fault>
+) -> Result<Found<(String, String)>, Fault>
     ensures found { IfOk result (λ found. FindsTwice (Canonicalize path.now)
         (λ text. string_bytes text) (next_view next.entry) found) }
     ensures err { IfErr result (λ fault. fault ≡ no_memory) }
@@ -213,7 +188,7 @@ pub(crate) fn found_spawn(
     spec: &CommandSpec,
     io: &[Stdio<u64>; 3],
     count: u64,
-) -> Result<Option<Result<u64, Fault>>, Fault>
+) -> Result<Found<u64>, Fault>
     ensures found { IfOk result
         (λ found. Finds (Spawn spec.now io.now) (FitsNumber count) (next_view next.entry) found) }
     ensures err { IfErr result
@@ -234,31 +209,26 @@ pub(crate) fn found_spawn(
 }
 
 /// Returns the recorded result of starting a worker that writes these bytes to this end.
-pub(crate) fn found_feed(
-    next: Option<&Entry>,
-    number: u64,
-    bytes: &Arc<Vec<u8>>,
-) -> Option<Result<(), Fault>>
+pub(crate) fn found_feed(next: Option<&Entry>, number: u64, bytes: &Arc<Vec<u8>>) -> Found<()>
     ensures { Finds (Feed number (arc_value bytes.now).items) Fits (next_view next.entry) result }
 {
     let Some(Entry::Feed(end, other, answer)) = next else {
         return None;
     };
-    if *end == number && other.as_slice() == bytes.as_slice() {
-        Some(*answer)
-    } else {
-        None
+    if *end != number || other.as_slice() != bytes.as_slice() {
+        return None;
     }
+    Some(*answer)
 }
 
 /// Returns the recorded result of starting a worker that reads this end.
-pub(crate) fn found_drain(next: Option<&Entry>, number: u64) -> Option<Result<(), Fault>>
+pub(crate) fn found_drain(next: Option<&Entry>, number: u64) -> Found<()>
     ensures { Finds (Drain number) Fits (next_view next.entry) result }
 {
     let Some(Entry::Drain(end, answer)) = next else {
         return None;
     };
-    if *end == number { Some(*answer) } else { None }
+    (*end == number).then_some(*answer)
 }
 
 /// Returns whether a reader of this end is recorded next.

@@ -1,24 +1,29 @@
 //! A system that is recorded while it runs, and one that answers from such a recording: what
 //! happened on the machine is run again, with no process at all, up to the first request that
-//! differs.
+//! differs. A recording is written as text and read back: one line of JSON for each entry, each
+//! child that ended and each end that was read. A journal is judged by a start over its replay.
 #![tactic(auto)]
 
-mod child;
+mod error;
 mod found;
-mod notes;
-mod reader;
+mod journal;
+mod judgement;
+mod parts;
+mod read;
 mod recorded;
 mod recorder;
 mod recording;
-mod records;
 mod replay;
-mod worker;
+mod replayed;
+mod write;
 
-pub use child::ReplayChild;
-pub use reader::ReplayReader;
+pub use error::{LineRefusal, Refusal};
+pub use journal::{journal_text, read_journal, read_recording, recording_text};
+pub use judgement::{Verdict, judge};
+pub use read::read_entry;
 pub use recorded::{RecordedChild, RecordedDrain, RecordedReader};
-pub use recorder::Recorder;
+pub use recorder::{Recorder, Records};
 pub use recording::Recording;
-pub use records::Records;
 pub use replay::{Replay, ReplayEnd};
-pub use worker::{ReplayDrain, ReplayFeed};
+pub use replayed::{ReplayChild, ReplayDrain, ReplayFeed, ReplayReader};
+pub use write::{Variables, entry_text};

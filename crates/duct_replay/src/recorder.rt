@@ -1,15 +1,32 @@
 //! A system that is recorded.
 ghost use Rattle.std.specs.Prelude.{◌≡◌, IfOk};
+ghost use Rattle.duct_replay.specs.RecordingView.{RecordingView};
 
-use crate::notes::{Ending, Notes, Output, add_note, note_of, record_endings, record_outputs};
-use crate::recorded::{RecordedChild, RecordedDrain, RecordedReader};
+use crate::recorded::{
+    Ending, Notes, Output, RecordedChild, RecordedDrain, RecordedReader, add_note, note_of,
+    record_endings, record_outputs,
+};
 use crate::recording::Recording;
-use crate::records::Records;
 use duct_system::copy::copies_of_entries;
 use duct_system::spec::CommandSpec;
 use duct_system::system::{Entry, Fault, Numbered, Side, Stdio, System};
 use std::alloc::{AllocError, Global};
 use std::sync::Arc;
+
+/// A system that notes what no journal has.
+pub trait Records: System {
+    /// A recording that may be returned, for what is noted. No generic code knows more of it, so a
+    /// recording of which this is promised was returned by `recording`.
+    ghost may_record: { Self → RecordingView → Type 0 };
+
+    /// Returns the journal so far with the endings and the bytes that are noted so far. A child has
+    /// no ending there before a poll has returned its exit status, and an end has no bytes before
+    /// they were read to EOF. Fails only at an allocation failure, and changes nothing.
+    fn recording(&self) -> Result<Recording, AllocError>
+        ensures entries { IfOk result (λ recording.
+            recording.entries ≡ (Self.journal_view self.now).entries) }
+        ensures noted { IfOk result (λ recording. may_record self.now recording) };
+}
 
 /// A system over another one that notes what no journal has: how children ended, and which bytes
 /// were read, by a worker or by a reader to EOF, of ends that `pipe`, `open_read` and `duplicate`

@@ -9,15 +9,13 @@ ghost use Rattle.duct_replay.specs.Answers.{FitsNumber, FitsPipe, IsNext, IsTold
 ghost use Rattle.duct_replay.specs.Retraces.{Retraces};
 ghost use Rattle.duct_replay.specs.Replays.{difference_after, next_of, noted};
 
-use crate::child::ReplayChild;
 use crate::found::{
-    found_canonicalize, found_create, found_drain, found_duplicate, found_environment, found_feed,
-    found_open_read, found_parent, found_pipe, found_spawn, is_close, is_reader, no_memory,
-    text_copy, unrecorded,
+    Found, found_canonicalize, found_create, found_drain, found_duplicate, found_environment,
+    found_feed, found_open_read, found_parent, found_pipe, found_spawn, is_close, is_reader,
+    no_memory, text_copy, unrecorded,
 };
-use crate::reader::ReplayReader;
 use crate::recording::Recording;
-use crate::worker::{ReplayDrain, ReplayFeed};
+use crate::replayed::{ReplayChild, ReplayDrain, ReplayFeed, ReplayReader};
 use duct_system::journal::Journal;
 use duct_system::spec::CommandSpec;
 use duct_system::streams::numbered_streams;
@@ -136,7 +134,7 @@ impl Replay {
     // Returns the result of a request for an end or a child: what was found, and if nothing was,
     // the fault `Other`. Counts up to its number; if it has none, releases the room for this many
     // ends.
-    fn take_answer(&mut self, found: Option<Result<u64, Fault>>, ends: usize) -> Result<u64, Fault>
+    fn take_answer(&mut self, found: Found<u64>, ends: usize) -> Result<u64, Fault>
         requires found { IfSome found (FitsNumber self.old.journal.next) }
         requires room { ends ≤ self.old.journal.room }
         ensures answer { result ≡ unwrap_or found (Err unrecorded) }
@@ -158,7 +156,7 @@ impl Replay {
     }
 
     // Returns the result of opening a pipe, as `take_answer` does.
-    fn take_pipe(&mut self, found: Option<Result<(u64, u64), Fault>>) -> Result<(u64, u64), Fault>
+    fn take_pipe(&mut self, found: Found<(u64, u64)>) -> Result<(u64, u64), Fault>
         requires found { IfSome found (FitsPipe self.old.journal.next) }
         requires room { 2 ≤ self.old.journal.room }
         ensures answer { result ≡ unwrap_or found (Err unrecorded) }

@@ -1,3 +1,4 @@
+pub mod Balance
 pub mod Bytes
 pub mod Changes
 pub mod Orders

@@ -1,4 +1,5 @@
 pub mod Answers
+pub mod Balance
 pub mod Change
 pub mod Next
 pub mod Obeying
@@ -7,6 +8,7 @@ pub mod Refusals
 pub mod Said
 pub mod Shares
 pub mod Shows
+pub mod Source
 pub mod Steps
 pub mod Told
 pub mod Unset

@@ -1,9 +1,11 @@
 //! A system for tests, whose results come from lists that a test sets. It is proved to keep the
-//! contracts of the interface to the operating system.
+//! contracts of the interface to the operating system. Beside it, a checker of the journals that a
+//! system keeps.
 #![tactic(auto)]
 
 mod answers;
 mod calls;
+mod checker;
 mod child;
 mod clock;
 mod gate;
@@ -17,6 +19,10 @@ mod text;
 
 pub use answers::Answers;
 pub use calls::{Call, CallLog};
+pub use checker::{
+    Source, fault_of, in_trace, is_balanced, open_count, opened_numbers, origin, spent_numbers,
+    trace,
+};
 pub use child::{ChildScript, PollAnswer, ScriptChild};
 pub use clock::ScriptClock;
 pub use gate::Gate;

@@ -1,7 +1,7 @@
 -- What holds of a late end.
-use Rattle.duct_deadline.specs.Until.{IfLate}
-use Rattle.duct_deadline.specs.declared.late.Until.{Until}
-use Rattle.duct_deadline.specs.declared.late.Until.TheVariants as until
+use Rattle.duct_tasks.specs.Until.{IfLate}
+use Rattle.duct_tasks.specs.declared.late.Until.{Until}
+use Rattle.duct_tasks.specs.declared.late.Until.TheVariants as until
 
 -- what follows from it holds too
 pub late_implies : {T L : Type 0} {P Q : L → Type 0} (ended : Until T L) → ((late : L) → P late → Q late)

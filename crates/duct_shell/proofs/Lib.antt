@@ -1,1 +1,8 @@
+pub mod Asked
+pub mod Copying
+pub mod Explaining
 pub mod Lateness
+pub mod LineSteps
+pub mod Sharing
+pub mod Tails
+pub mod Written

@@ -1,18 +1,87 @@
-//! Runs of a shell whose output is kept, also where they fail.
-ghost use Rattle.std.specs.Prelude.{◌≡◌, IfErr, IfOk};
+//! Runs whose output is kept, also where they fail.
+ghost use Rattle.std.specs.Prelude.{◌≡◌, IfErr, IfOk, IsOkUnless, true, false};
+ghost use Rattle.duct_system.specs.Status.{is_success};
+ghost use Rattle.duct_system.specs.declared.error.Error.TheVariants.{Memory};
+ghost use Rattle.duct_tree.specs.NodeView.{node_view};
 ghost use Rattle.duct.specs.TreeView.{tree_view};
-ghost use Rattle.duct_lines.specs.Captures.{AreCommand, CaptureFails, RunsCaptured};
 ghost use Rattle.duct_shell.specs.Begun.{DoesFrom, FailsFrom};
+ghost use Rattle.duct_shell.specs.Captures.{AreCommand, CaptureFails, RunsCaptured, with_captures};
 
+use crate::failed_run::FailedRun;
 use crate::failure::Failure;
 use crate::shell::Shell;
-use duct::{Expression, Hook, System};
-use duct_lines::{Captured, run_captured};
+use duct::tree::Node;
+use duct::{Error, Expression, Hook, Output, Pool, System};
 use duct_run::views::Viewed;
-use std::sync::Wait;
+use std::sync::{Arc, Wait};
+
+/// What a run came to, with all that it wrote.
+#[derive(Debug, Drop)]
+pub struct Captured {
+    /// The status of the winning command, and what was written to stdout and stderr.
+    pub output: Output,
+
+    /// The words of the command. It is `None` for a pipe.
+    pub command: Option<Arc<Vec<String>>>,
+}
+
+impl Captured {
+    /// Returns the output if its status is a success. Else fails with all of it; the error's text
+    /// ends with the last lines of stderr, at most `most` bytes.
+    ///
+    /// Example: `run_captured(&rt, &make, &mut host, &mut pool)?.checked(4096)?`
+    pub fn checked(self, most: usize) -> Result<Output, FailedRun>
+        ensures output { IfOk result (λ output. output ≡ self.output) }
+        ensures success { IfOk result (λ output. is_success output.status ≡ true) }
+        ensures failed { IfErr result (λ failed. failed
+            ≡ record { output = self.output; command = self.command; most = most }) }
+        ensures failure { IfErr result (λ failed. is_success failed.output.status ≡ false) }
+    {
+        let Captured { output, command } = self;
+        if output.status.success() {
+            Ok(output)
+        } else {
+            Err(FailedRun {
+                output,
+                command,
+                most,
+            })
+        }
+    }
+}
+
+/// Runs an expression as `Expression::run` does, with its stdout and its stderr captured, and
+/// returns what they got with the status, also where that is no success. A stream that is
+/// redirected inside has nothing in it.
+///
+/// Fails as `run` does, and leaves the same, but never with `Error::Checked`.
+///
+/// Example: `run_captured(&rt, &make, &mut host, &mut pool)?.output`
+pub fn run_captured<S: System, H: Hook>(
+    rt: &impl Wait,
+    expression: &Expression<S::End, H>,
+    system: &mut S,
+    pool: &mut Pool<S::Child>,
+) -> Result<Captured, Error>
+    ensures output { IfOk result (λ captured. RunsCaptured ⟦<S as Viewed>⟧.views H.allows H.refuses
+        expression.now system.old system.new pool.old pool.new captured.output) }
+    ensures command { IfOk result
+        (λ captured. AreCommand (tree_view expression.now) captured.command) }
+    ensures failed { IfErr result (CaptureFails ⟦<S as Viewed>⟧.views H.allows H.refuses
+        expression.now system.old system.new pool.old pool.new) }
+{
+    let root = with_captures(expression)?;
+    match root.run(rt, system, pool) {
+        Ok(output) => Ok(Captured {
+            output,
+            command: command_of(expression.root()),
+        }),
+        Err(error) => Err(error),
+    }
+}
 
 impl<S: System, R: Wait, H: Hook> Shell<S, R, H> {
-    /// Runs an expression as `run_captured` of `duct_lines` does: it blocks until it has ended, and
+    /// Runs an expression as the function of this name does: it blocks until it has ended, and
     /// returns what was written to stdout and stderr with the status, also where that is no
     /// success. `checked` of the result makes an error of that, which shows the end of stderr.
     ///
@@ -35,5 +104,25 @@ impl<S: System, R: Wait, H: Hook> Shell<S, R, H> {
             Ok(captured) => Ok(captured),
             Err(error) => Err(self.failure(entries, error)),
         }
+    }
+}
+
+// Returns the expression with both streams captured, whose failure is no error.
+fn with_captures<E: Drop, H: Hook>(expression: &Expression<E, H>) -> Result<Expression<E, H>, Error>
+    ensures tree { IfOk result
+        (λ made. tree_view made ≡ with_captures (tree_view expression.now)) }
+    ensures memory { IsOkUnless result Memory }
+{
+    expression.stdout_capture()?.stderr_capture()?.unchecked()
+}
+
+// Returns the words of the command of a node that has one alone.
+fn command_of<E, H>(node: &Node<E, H>) -> Option<Arc<Vec<String>>>
+    ensures { AreCommand (node_view node.now) result }
+{
+    match node {
+        Node::Cmd(words) => Arc::try_clone(words).ok(),
+        Node::Pipe(_, _) => None,
+        Node::Io(_, inner) => command_of(inner),
     }
 }

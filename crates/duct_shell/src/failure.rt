@@ -5,10 +5,10 @@ ghost use Rattle.duct_system.specs.EntryView.{entry_view};
 ghost use Rattle.duct_system.specs.Kinds.{kind_of};
 ghost use Rattle.duct_system.specs.declared.error.Error.TheVariants.{Memory, System};
 ghost use Rattle.duct_shell.specs.Converted.{IsFault, io_kind};
-ghost use Rattle.duct_shell.specs.Named.{Names};
+ghost use Rattle.duct_shell.specs.RequestText.{Names};
 
+use crate::request::request_text;
 use duct::{Entry, Error, Fault, Kind};
-use duct_report::request_text;
 use std::alloc::{AllocError, AllocFailed, Global};
 use std::io::ErrorKind;
 use std::{error, fmt, io};

@@ -5,22 +5,45 @@
 //! let text = read!(sh; "echo", "hi")?; // hi
 //! run!(sh; "make", "install")?;
 //! ```
+//!
+//! Beside it stand why a call failed (`reason`), what an expression prints, by lines or with a copy
+//! for a writer, and its handles in several threads.
+//!
+//! The calls of a handle and of a reader handle are traits here, with `Sync` above them: a function
+//! over `H: SharedHandle` may lend its handle to other threads, and needs no proof. Where it is
+//! given a handle of a `Host`, the program owes one line of proof: `search main_handle_sync` or
+//! `search main_reader_handle_sync`, with the rule sets of this crate's `proofs/Sharing`; and
+//! `search main_running_send` where it sends a `Running` to another thread. What a call may return
+//! is a relation of the trait, and a function's own clauses cite it, as in
+//! `ensures { IfSome result (λ e. H.may_return handle.now (Err e)) }`. Of a `Handle` and of a
+//! `ReaderHandle` it is what the clause of the call of that name says.
 #![tactic(auto)]
 
 mod capture;
 mod chain;
+mod failed_run;
 mod failure;
-mod limit;
+mod lines;
+mod request;
 mod shell;
+mod tee;
+mod threads;
 
+pub use capture::{Captured, run_captured};
 pub use chain::Chain;
+pub use failed_run::{FailedRun, last_lines};
 pub use failure::Failure;
+pub use lines::{each_line, ended};
+pub use request::{
+    EntryText, RequestText, failed_request, failed_starts, reason, request_text, write_arguments,
+};
 pub use shell::Shell;
+pub use tee::Tee;
+pub use threads::{SharedHandle, SharedReader};
 
 // What a program over a shell needs of the library.
 pub use duct::{Clock, Error, ExitStatus, Expression, Handle, Output, ReaderHandle, System};
-pub use duct_deadline::{Late, LateRead, Until};
-pub use duct_lines::{Captured, FailedRun};
+pub use duct_tasks::{Late, LateRead, Until};
 
 /// A command: `cmd!(sh; program, arg, ..)` is `sh.cmd(program, &[arg, ..])`. A trailing comma is
 /// allowed.

@@ -14,7 +14,7 @@ use Rattle.duct_running.specs.NumbersView.{NumbersView, numbers_of}
 use Rattle.duct_running.specs.Polled.{Polled}
 use Rattle.duct_running.specs.Stored.{Bytes}
 use Rattle.duct.specs.declared.expression.Expression.{Expression}
-use Rattle.duct_deadline.proofs.Ending.{ends_same}
+use Rattle.duct_tasks.proofs.Ending.{ends_same}
 use Rattle.duct_tasks.specs.Kept.{GoesTo, InSuccession, IsIdle, IsWhy, Keeps, Runs, StoppedIf, WhyAfter, last_of}
 use Rattle.duct_tasks.specs.Turns.{End, RunsAlike, Turn}
 use Rattle.duct_tasks.specs.declared.keeper.Kept.{Kept}

@@ -27,7 +27,7 @@ use Rattle.duct_handle.specs.Waited.{at_end}
 use Rattle.duct.specs.Launched.{LaunchRefused, Launched, Runs, added_between, draining, drains_error, drains_output}
 use Rattle.duct.specs.TreeView.{tree_view}
 use Rattle.duct.specs.declared.expression.Expression.{Expression}
-use Rattle.duct_deadline.proofs.Ending.{ends_same}
+use Rattle.duct_tasks.proofs.Ending.{ends_same}
 use Rattle.duct_tasks.specs.Turns.{Advances, Began, End, EndsWith, Goes, InTurn, RanTo, RunsAlike, Turn}
 use Rattle.duct_tasks.specs.declared.task.Task.{Task}
 use Rattle.duct_tasks.specs.declared.task.Task.TheVariants.{Running, Ended}

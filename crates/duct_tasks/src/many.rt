@@ -6,6 +6,7 @@ ghost use Rattle.duct_tasks.specs.RanAll.{RanAll};
 ghost use Rattle.duct_tasks.specs.Turns.{Goes};
 
 use crate::crew::Crew;
+use crate::watch::PAUSE;
 use duct::Expression;
 use duct_base::error::Error;
 use duct_base::pool::Pool;
@@ -45,9 +46,6 @@ pub enum Progress<'a> {
     /// It has ended with this, or could not be started.
     Ended(&'a Result<Arc<Output>, Error>),
 }
-
-/// How long `run_all` pauses between two rounds of polls, in microseconds.
-const PAUSE: u64 = 1_000;
 
 /// Starts the tasks in order, each as `Expression::launch` does, and never while as many run as the
 /// limit allows: a task runs until a poll has said how it ended. Between two rounds of polls it

@@ -7,22 +7,20 @@ ghost use Rattle.duct_handle.specs.Waited.{at_end};
 ghost use Rattle.duct_tasks.specs.Kept.{GoesTo, IsOver, Runs, StoppedIf, last_of};
 ghost use Rattle.duct_tasks.specs.Turns.{RunsAlike};
 
+use crate::late::TERMINATE;
 use crate::many::Progress;
 use crate::task::{ended, is_failure, spend};
+use crate::watch::PAUSE;
 use duct::Expression;
 use duct_base::error::Error;
 use duct_base::pool::Pool;
 use duct_base::spec::Hook;
 use duct_base::system::{Clock, Output, System};
-use duct_deadline::TERMINATE;
 use duct_run::views::Viewed;
 use duct_running::running::Running;
 use std::sync::{Arc, Wait};
 use std::thread::Parker;
 use std::time::Duration;
-
-/// How long a wait pauses between two polls, in microseconds.
-const PAUSE: u64 = 1_000;
 
 /// How a run came to its end.
 pub(crate) enum Run {

@@ -11,12 +11,12 @@ ghost use Rattle.duct_handle.specs.Waited.{at_end};
 ghost use Rattle.duct_tasks.specs.Counts.{failed_of, running_in, running_of};
 ghost use Rattle.duct_tasks.specs.Turns.{Advances, AreEnds, RunsAlike, Turn};
 
+use crate::late::TERMINATE;
 use duct::Expression;
 use duct_base::error::Error;
 use duct_base::pool::Pool;
 use duct_base::spec::Hook;
 use duct_base::system::{Output, System};
-use duct_deadline::TERMINATE;
 use duct_run::views::Viewed;
 use duct_running::running::Running;
 use std::mem::replace;

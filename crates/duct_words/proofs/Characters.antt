@@ -33,37 +33,26 @@ after_far state bytes =
       | DoubleEscape opened ↦ pushed (Double opened) state (92 ∷ bytes)
     ]
 
--- a state from its parts
-abbrev state_of : List TokenView → List ℕ → Part → Mode → Bool → State
-state_of tokens word part mode at_command = record {
-  tokens = tokens;
-  word = word;
-  part = part;
-  mode = mode;
-  at_command = at_command;
-}
-
-far_step : (place : ℕ) (tokens : List TokenView) (word : List ℕ) (part : Part) (mode : Mode) (at_command : Bool) (c : ℕ) (bytes : List ℕ)
-    → 128 ≤ c → let state = state_of tokens word part mode at_command in
-    step place state c bytes ≡ Ok (after_far state bytes)
-far_step place tokens word part Bare at_command c bytes far = rw (far_kind c far, bare)
-far_step place tokens word part (Escape at) at_command c bytes far = grind (arith, nat_tests)
-far_step place tokens word part (Single at) at_command c bytes far = grind (arith, nat_tests)
-far_step place tokens word part (Double opened) at_command c bytes far = grind (arith, nat_tests)
-far_step place tokens word part (DoubleEscape opened) at_command c bytes far = grind (arith, nat_tests)
+far_step : (place : ℕ) (state : State) (mode : Mode) (c : ℕ) (bytes : List ℕ) → 128 ≤ c
+    → step place (record state { mode = mode }) c bytes ≡ Ok (after_far (record state { mode = mode }) bytes)
+far_step place state Bare c bytes far = rw (far_kind c far, bare)
+far_step place state (Escape at) c bytes far = grind (arith, nat_tests)
+far_step place state (Single at) c bytes far = grind (arith, nat_tests)
+far_step place state (Double opened) c bytes far = grind (arith, nat_tests)
+far_step place state (DoubleEscape opened) c bytes far = grind (arith, nat_tests)
 
 -- bytes past ASCII one after the other
-after_both : (tokens : List TokenView) (word : List ℕ) (part : Part) (mode : Mode) (at_command : Bool) (b : ℕ) (bytes : List ℕ)
-    → let state = state_of tokens word part mode at_command in
-    after_far (after_far state (b ∷ [])) bytes ≡ after_far state (b ∷ bytes)
-after_both tokens word Gap Bare at_command b bytes = simp append_assoc
-after_both tokens word Operator Bare at_command b bytes = simp append_assoc
-after_both tokens word Plain Bare at_command b bytes = simp append_assoc
-after_both tokens word Quoted Bare at_command b bytes = simp append_assoc
-after_both tokens word part (Escape at) at_command b bytes = simp append_assoc
-after_both tokens word part (Single at) at_command b bytes = simp append_assoc
-after_both tokens word part (Double opened) at_command b bytes = simp append_assoc
-after_both tokens word part (DoubleEscape opened) at_command b bytes = simp append_assoc
+after_both : (state : State) (part : Part) (mode : Mode) (b : ℕ) (bytes : List ℕ)
+    → let here = record state { part = part; mode = mode } in
+    after_far (after_far here (b ∷ [])) bytes ≡ after_far here (b ∷ bytes)
+after_both state Gap Bare b bytes = simp append_assoc
+after_both state Operator Bare b bytes = simp append_assoc
+after_both state Plain Bare b bytes = simp append_assoc
+after_both state Quoted Bare b bytes = simp append_assoc
+after_both state part (Escape at) b bytes = simp append_assoc
+after_both state part (Single at) b bytes = simp append_assoc
+after_both state part (Double opened) b bytes = simp append_assoc
+after_both state part (DoubleEscape opened) b bytes = simp append_assoc
 
 -- all bytes are past ASCII
 abbrev pub AllFar : List ℕ → Type 0
@@ -75,16 +64,16 @@ far_bytes : (place : ℕ) (state : State) (b : ℕ) (bytes rest : List ℕ) → 
     → read place state (b ∷ bytes ++ rest) ≡ read (place + length (b ∷ bytes)) (after_far state (b ∷ bytes)) rest
 far_bytes place state b [] rest far =
     ap (λ (r : Result State SplitError). r >>= λ after. read (suc place) after rest)
-    (far_step place state.tokens state.word state.part state.mode state.at_command b (b ∷ []) far.0)
+    (far_step place state state.mode b (b ∷ []) far.0)
     ∙ ap (λ (n : ℕ). read n (after_far state (b ∷ [])) rest) (sym (add-one place))
 far_bytes place state b (c ∷ bytes) rest far =
     let further : suc place + length (c ∷ bytes) ≡ place + length (b ∷ c ∷ bytes) = omega arith in
     ap (λ (r : Result State SplitError). r >>= λ after. read (suc place) after (c ∷ bytes ++ rest))
-    (far_step place state.tokens state.word state.part state.mode state.at_command b (b ∷ []) far.0)
+    (far_step place state state.mode b (b ∷ []) far.0)
     ∙ far_bytes (suc place) (after_far state (b ∷ [])) c bytes rest far.1
     ∙ ap (λ (n : ℕ). read n (after_far (after_far state (b ∷ [])) (c ∷ bytes)) rest) further
     ∙ ap (λ (s : State). read (place + length (b ∷ c ∷ bytes)) s rest)
-    (after_both state.tokens state.word state.part state.mode state.at_command b (c ∷ bytes))
+    (after_both state state.part state.mode b (c ∷ bytes))
 
 -- some bytes past ASCII
 abbrev pub IsFar : List ℕ → Type 0
@@ -128,7 +117,7 @@ at_once_far : (place : ℕ) (state : State) (c b : ℕ) (bytes rest : List ℕ) 
 at_once_far place state c b bytes rest far all =
     far_bytes place state b bytes rest all
     ∙ ap (λ (r : Result State SplitError). r >>= λ after. read (place + length (b ∷ bytes)) after rest)
-    (sym (far_step place state.tokens state.word state.part state.mode state.at_command c (b ∷ bytes) far))
+    (sym (far_step place state state.mode c (b ∷ bytes) far))
 
 at_once : (place : ℕ) (state : State) (c : ℕ) (rest : List ℕ)
     → ReadAtOnce place state c (encode c) rest

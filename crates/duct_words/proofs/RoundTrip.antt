@@ -25,6 +25,7 @@ within tokens is_first bytes part mode = record {
   part = part;
   mode = mode;
   at_command = is_first;
+  at_path = false;
 }
 
 -- what is read of these bytes in a state is what is read of these bytes in the other one, from some

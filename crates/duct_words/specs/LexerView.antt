@@ -19,4 +19,5 @@ lexer_view lexer = record {
   part = lexer.part;
   mode = lexer.mode;
   at_command = lexer.at_command;
+  at_path = lexer.at_path;
 }

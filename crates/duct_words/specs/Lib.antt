@@ -1,4 +1,8 @@
 pub mod Kind
 pub mod LexerView
+pub mod Line
+pub mod PartView
 pub mod Quote
+pub mod ReaderView
+pub mod ShellText
 pub mod Split

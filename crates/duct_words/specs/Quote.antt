@@ -7,26 +7,17 @@ use Rattle.duct_words.specs.Kind.{is_plain}
 abbrev pub is_bare_byte : Bool → ℕ → Bool
 is_bare_byte is_first b = is_plain b || (b == 61 && not is_first)
 
--- whether a word begins a compound command, or continues or ends one, or is one of bash's own
-abbrev pub begins_list : List ℕ → Bool
-begins_list word =
+-- whether a shell obeys a word as the first of its command: it begins a compound command, or
+-- continues or ends one, or is one of bash's own
+abbrev pub is_reserved : List ℕ → Bool
+is_reserved word =
     bytes_eq word (codes "if") || bytes_eq word (codes "for") || bytes_eq word (codes "case")
     || bytes_eq word (codes "while") || bytes_eq word (codes "until")
-
-abbrev pub is_within_list : List ℕ → Bool
-is_within_list word =
-    bytes_eq word (codes "then") || bytes_eq word (codes "elif") || bytes_eq word (codes "else")
+    || bytes_eq word (codes "then") || bytes_eq word (codes "elif") || bytes_eq word (codes "else")
     || bytes_eq word (codes "fi") || bytes_eq word (codes "in") || bytes_eq word (codes "do")
     || bytes_eq word (codes "done") || bytes_eq word (codes "esac")
-
-abbrev pub is_of_bash : List ℕ → Bool
-is_of_bash word =
-    bytes_eq word (codes "function") || bytes_eq word (codes "select")
+    || bytes_eq word (codes "function") || bytes_eq word (codes "select")
     || bytes_eq word (codes "time") || bytes_eq word (codes "coproc")
-
--- whether a shell obeys a word as the first of its command
-abbrev pub is_reserved : List ℕ → Bool
-is_reserved word = begins_list word || is_within_list word || is_of_bash word
 
 -- whether a word needs no quotes as the first of its command, nor do its bytes
 abbrev pub has_no_quotes : Bool → List ℕ → Bool

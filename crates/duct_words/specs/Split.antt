@@ -1,5 +1,5 @@
 -- The tokens of a text, read one byte after the other, or why it has none.
-use Rattle.std.specs.Prelude.{◌≡◌, ℕ, suc, List, [], ◌∷◌, ◌++◌, Bool, true, false, ◌==◌, Ok, Err, if◌then◌else◌, codes}
+use Rattle.std.specs.Prelude.{◌≡◌, ℕ, suc, List, [], ◌∷◌, ◌++◌, Bool, true, false, ◌==◌, ◌&&◌, ◌||◌, not, Ok, Err, if◌then◌else◌, codes}
 use Rattle.std.specs.Char.{is_ascii_digit}
 use Rattle.std.specs.List.{list_all}
 use Rattle.std.specs.Str.{bytes_eq}
@@ -17,8 +17,7 @@ use Rattle.duct_words.specs.declared.error.SplitError.TheVariants.{Unquoted, Unc
 
 infixl 10 ◌>>=◌
 -- a value goes on to the next step, and an error stays
-abbrev pub ◌>>=◌ : {A B : Type 0} → Result A SplitError → (A → Result B SplitError)
-    → Result B SplitError
+abbrev pub ◌>>=◌ : {A B E : Type 0} → Result A E → (A → Result B E) → Result B E
 (Ok value) >>= next = next value
 (Err error) >>= next = Err error
 
@@ -28,18 +27,27 @@ pub data TokenView : Type 0 where
   pipe : TokenView
   redirect : Stream → TokenView
 
--- what was read so far: the tokens, the word that has begun, what stands before, what quotes, and
--- whether a shell takes the next word for a command
+-- what was read so far: the tokens, the word that has begun, what stands before, what quotes,
+-- whether a shell takes the next word that is no path for an assignment or a command, and whether
+-- the next word is the path of a redirection
 pub record State : Type 0 where
   pub tokens : List TokenView
   pub word : List ℕ
   pub part : Part
   pub mode : Mode
   pub at_command : Bool
+  pub at_path : Bool
 
 -- before the first byte
 abbrev pub start : State
-start = record { tokens = []; word = []; part = Gap; mode = Bare; at_command = true }
+start = record {
+  tokens = [];
+  word = [];
+  part = Gap;
+  mode = Bare;
+  at_command = true;
+  at_path = false;
+}
 
 -- with an unquoted part of a word, which leaves a word quoted that was so
 abbrev pub ordinary : State → List ℕ → State
@@ -52,12 +60,13 @@ ordinary state bytes = record state {
 abbrev pub pushed : Mode → State → List ℕ → State
 pushed mode state bytes = record state { word = state.word ++ bytes; mode = mode }
 
--- with the word as a token
+-- with the word as a token; after a path an assignment may stand where it could before
 abbrev pub ended : State → State
 ended state = record state {
   tokens = state.tokens ++ word state.word ∷ [];
   word = [];
-  at_command = false;
+  at_command = state.at_path && state.at_command;
+  at_path = false;
 }
 
 -- with the word as a token, if one has begun
@@ -67,7 +76,11 @@ finished state =
 
 -- behind an operator
 abbrev pub behind : TokenView → State → State
-behind token state = record state { tokens = state.tokens ++ token ∷ []; part = Operator }
+behind token state = record state {
+  tokens = state.tokens ++ token ∷ [];
+  part = Operator;
+  at_path = true;
+}
 
 -- after an operator, which doesn't stand directly behind another one
 abbrev pub operator : TokenView → ℕ → State → ℕ → Result State SplitError
@@ -103,7 +116,7 @@ redirection stream place state c =
 
 -- before a command
 abbrev pub before_command : State → State
-before_command state = record state { at_command = true }
+before_command state = record state { at_command = true; at_path = false }
 
 -- after a byte outside of quotes
 abbrev pub bare : ℕ → State → ℕ → List ℕ → Result State SplitError
@@ -118,7 +131,9 @@ bare place state c bytes =
       | Pipe ↦ operator pipe place state c >>= λ after. Ok (before_command after)
       | Less ↦ redirection streams.In place state c
       | Greater ↦ redirection streams.Out place state c
-      | Equals ↦ if state.at_command then Err (Unquoted c place) else Ok (ordinary state bytes)
+      | Equals ↦
+          if state.at_path || not state.at_command then Ok (ordinary state bytes)
+          else Err (Unquoted c place)
       | Expansion ↦ Err (Unquoted c place)
       | Special ↦ Err (Unquoted c place)
     ]

@@ -1,7 +1,9 @@
-//! Why a text has no tokens.
+//! Why a text has no tokens or means no expression, and why an expression has no text.
 ghost use Rattle.std.specs.Prelude.{◌≡◌};
-ghost use Rattle.duct_words.specs.declared.error.SplitError.TheVariants.{Memory};
+ghost use Rattle.duct_words.specs.declared.error.ShellTextError.TheVariants as shells;
+ghost use Rattle.duct_words.specs.declared.error.SplitError.TheVariants as splits;
 
+use duct_program::Usage;
 use std::alloc::{AllocError, AllocFailed};
 use thiserror::Error;
 
@@ -24,7 +26,7 @@ pub enum SplitError {
 }
 
 impl From<AllocError> for SplitError {
-    ghost from_gives = { λ _ error. error ≡ Memory };
+    ghost from_gives = { λ _ error. error ≡ splits.Memory };
 
     fn from(_error: AllocError) -> SplitError {
         SplitError::Memory
@@ -32,9 +34,69 @@ impl From<AllocError> for SplitError {
 }
 
 impl<T: Drop> From<AllocFailed<T>> for SplitError {
-    ghost from_gives = { λ _ error. error ≡ Memory };
+    ghost from_gives = { λ _ error. error ≡ splits.Memory };
 
     fn from(_error: AllocFailed<T>) -> SplitError {
         SplitError::Memory
+    }
+}
+
+/// Why a text means no expression.
+#[derive(Clone, Copy, Debug, PartialEq, Eq, Drop, Error)]
+pub enum LineError {
+    /// The text has no tokens, or an allocation failed.
+    #[error("{0}")]
+    Split(SplitError),
+    /// The text has tokens, but a command has no words, or no path follows a `<`, `>` or `2>`; or
+    /// an allocation failed. The first error, from left to right, is named.
+    #[error("{0}")]
+    Usage(Usage),
+}
+
+/// Why an expression has no text. The first reason, from left to right, is named: a node comes
+/// before those inside it.
+#[derive(Clone, Copy, Debug, PartialEq, Eq, Drop, Error)]
+pub enum ShellTextError {
+    /// Bytes for stdin.
+    #[error("bytes for stdin have no text")]
+    Bytes,
+    /// A stream that goes to an end of the caller.
+    #[error("an end of the caller has no text")]
+    End,
+    /// A stream that is captured.
+    #[error("a capture has no text")]
+    Capture,
+    /// A variable that is removed, or all that are replaced.
+    #[error("a removal of variables has no text")]
+    Removal,
+    /// A hook.
+    #[error("a hook has no text")]
+    Hook,
+    /// A folder whose path is empty.
+    #[error("an empty path of a folder has no text")]
+    Folder,
+    /// A variable whose name is empty, begins with a `-` or has a `=`.
+    #[error("a variable's name has no text")]
+    Name,
+    /// A program whose name begins with a `-` or has a `=`.
+    #[error("a program's name has no text")]
+    Program,
+    /// A program in a folder of its own whose path is relative: it is relative to the folder of the
+    /// parent.
+    #[error("a relative path of a program in another folder has no text")]
+    RelativeProgram,
+    /// A NUL in a word, a path, or a variable's name or value.
+    #[error("a NUL has no text")]
+    Nul,
+    /// An allocation failed.
+    #[error("out of memory")]
+    Memory,
+}
+
+impl From<AllocError> for ShellTextError {
+    ghost from_gives = { λ _ error. error ≡ shells.Memory };
+
+    fn from(_error: AllocError) -> ShellTextError {
+        ShellTextError::Memory
     }
 }

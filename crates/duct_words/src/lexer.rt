@@ -45,8 +45,11 @@ struct Lexer {
     word: String,
     part: Part,
     mode: Mode,
-    /// Whether no word has ended since the last `|`, so that a shell takes the next for a command.
+    /// Whether no word but paths of redirections has ended since the last `|`, so that a shell takes
+    /// the next such word for an assignment or a command.
     at_command: bool,
+    /// Whether a redirection stands before the next word, which is its path.
+    at_path: bool,
 }
 
 /// Returns the words and operators of a text, by the quoting rules of a POSIX shell: spaces and
@@ -56,9 +59,10 @@ struct Lexer {
 ///
 /// Nothing is expanded, and nothing passes that a shell would expand or obey. Fails with
 /// `SplitError::Unquoted` at a newline and at each of `` $ ` * ? [ ~ # ; & ( ) { } ! `` that isn't
-/// quoted; at an `=` in the first word of a command, which is an assignment there; at a second
-/// operator directly behind one, as in `>>`; and at a number directly before `<` or `>`, other than
-/// `2>`. Names are words: those of a shell's functions, aliases and reserved words too.
+/// quoted; at an `=` in the first word of a command, which is an assignment there, behind
+/// redirections too; at a second operator directly behind one, as in `>>`; and at a number directly
+/// before `<` or `>`, other than `2>`. Names are words: those of a shell's functions, aliases and
+/// reserved words too.
 ///
 /// Fails also at an unclosed quote, at a last backslash, and at an allocation failure.
 ///
@@ -73,6 +77,7 @@ pub fn split(alloc: Global, text: &str) -> Result<Vec<Token>, SplitError>
         part: Part::Gap,
         mode: Mode::Bare,
         at_command: true,
+        at_path: false,
     };
     for (place, character) in text.char_indices() {
         lexer.step(place, character)?;
@@ -124,11 +129,12 @@ impl Lexer {
             Kind::Pipe => {
                 self.operator(Token::Pipe, place, c)?;
                 self.at_command = true;
+                self.at_path = false;
                 Ok(())
             }
             Kind::Less => self.redirection(Stream::In, place, c),
             Kind::Greater => self.redirection(Stream::Out, place, c),
-            Kind::Equals if !self.at_command => self.ordinary(c),
+            Kind::Equals if self.at_path || !self.at_command => self.ordinary(c),
             Kind::Newline | Kind::Equals | Kind::Expansion | Kind::Special => unquoted(place, c),
         }
     }
@@ -214,6 +220,7 @@ impl Lexer {
         }
         self.word.clear();
         self.part = Part::Operator;
+        self.at_path = true;
         self.tokens.push(Token::Redirect(Stream::Err))?;
         Ok(())
     }
@@ -238,11 +245,12 @@ impl Lexer {
         }
         self.finish()?;
         self.part = Part::Operator;
+        self.at_path = true;
         self.tokens.push(token)?;
         Ok(())
     }
 
-    // Adds the word, if one has begun.
+    // Adds the word, if one has begun. After a path an assignment may stand where it could before.
     fn finish(&mut self) -> Result<(), SplitError>
         ensures { ParsesAs (λ _. lexer_view self.new) result
             (Ok (finished (lexer_view self.old))) }
@@ -250,7 +258,8 @@ impl Lexer {
         if matches!(self.part, Part::Plain | Part::Quoted) {
             let word = mem::replace(&mut self.word, String::new(self.alloc));
             self.tokens.push(Token::Word(word))?;
-            self.at_command = false;
+            self.at_command = self.at_path && self.at_command;
+            self.at_path = false;
         }
         Ok(())
     }

@@ -1,7 +1,7 @@
 //! The text of some words.
-ghost use Rattle.std.specs.Prelude.{◌≡◌, ◌++◌, ◌&&◌, map, string_bytes, IfOk, OnOk};
+ghost use Rattle.std.specs.Prelude.{◌≡◌, ◌++◌, map, string_bytes, IfOk, OnOk};
 ghost use Rattle.std.specs.List.{list_all};
-ghost use Rattle.duct_words.specs.Quote.{begins_list, has_no_quotes, is_bare_byte, is_of_bash, is_reserved, is_within_list, quote_of, quoted};
+ghost use Rattle.duct_words.specs.Quote.{has_no_quotes, is_bare_byte, is_reserved, quote_of, quoted};
 ghost use Rattle.duct_words.specs.Split.{split_of, word};
 
 use crate::kind::is_plain;
@@ -65,7 +65,7 @@ pub(crate) fn push_word(text: &mut String, word: &str, is_first: bool) -> Result
 fn is_bare(word: &str, is_first: bool) -> bool
     ensures { result ≡ has_no_quotes is_first word.now }
 {
-    !is_obeyed(word, is_first) && has_bare_bytes(word, is_first)
+    !(is_first && is_reserved(word)) && has_bare_bytes(word, is_first)
 }
 
 // Whether no byte of a word needs quotes.
@@ -76,44 +76,14 @@ fn has_bare_bytes(word: &str, is_first: bool) -> bool
         .all(|b| is_plain(char::from(b)) || b == b'=' && !is_first)
 }
 
-// Whether a shell obeys a word, which is the first of its command or not.
-fn is_obeyed(word: &str, is_first: bool) -> bool
-    ensures { result ≡ (is_first && is_reserved word.now) }
-{
-    is_first && is_reserved(word)
-}
-
 // Whether a shell obeys a word as the first of its command.
 fn is_reserved(word: &str) -> bool
     ensures { result ≡ is_reserved word.now }
 {
-    begins_list(word) || is_within_list(word) || is_of_bash(word)
-}
-
-// Whether a word begins a compound command.
-fn begins_list(word: &str) -> bool
-    ensures { result ≡ begins_list word.now }
-{
-    word == "if" || word == "for" || word == "case" || word == "while" || word == "until"
-}
-
-// Whether a word continues or ends a compound command.
-fn is_within_list(word: &str) -> bool
-    ensures { result ≡ is_within_list word.now }
-{
-    word == "then"
-        || word == "elif"
-        || word == "else"
-        || word == "fi"
-        || word == "in"
-        || word == "do"
-        || word == "done"
-        || word == "esac"
-}
-
-// Whether a word is one of bash's own.
-fn is_of_bash(word: &str) -> bool
-    ensures { result ≡ is_of_bash word.now }
-{
-    word == "function" || word == "select" || word == "time" || word == "coproc"
+    matches!(word, "if" | "for" | "case" | "while" | "until")
+        || matches!(
+            word,
+            "then" | "elif" | "else" | "fi" | "in" | "do" | "done" | "esac"
+        )
+        || matches!(word, "function" | "select" | "time" | "coproc")
 }

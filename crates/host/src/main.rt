@@ -3,8 +3,7 @@
 #![tactic(auto)]
 
 use duct_host::Host;
-use duct_main::{Program, arguments};
-use duct_program::perform;
+use duct_program::{Program, arguments, perform};
 use std::io;
 use std::process::ExitCode;
 

@@ -11,100 +11,39 @@
 //! Nth allocation of the process fails, `--spend` chooses which one of a row that is.
 #![tactic(auto)]
 
-use rows_calls::Calls;
-use rows_parts::Parts;
-use rows_requests::{HostMachine, Scripts};
-use rows_runs::{Machine, Scripted};
-use rows_table::{Counts, File, Odd, Real, Script, TableError, compare, filled, untried};
+mod parts;
+
+use crate::parts::Parts;
+use rows_runs::{Calls, HostMachine, Scripted};
+use rows_table::{Counts, File, Real, TableError, compare, filled};
 use std::alloc::Global;
 use std::io::{self, Write};
 use std::process::ExitCode;
 use std::sync::Wait;
 use std::{env, fs};
 
-/// Tries the rows of a file by the table that its first line names.
-fn tried<R: Real + Wait, W: Write>(rt: &R, file: File, out: &mut W) -> io::Result<Counts> {
+/// Tries the rows of a file by the table that its first line names. Fails if there is no such
+/// table, if its first row can't be set up, or if the output can't be written.
+fn tried<R: Real + Wait, W: Write>(rt: &R, file: File, out: &mut W) -> Result<Counts, TableError> {
     let alloc = rt.alloc();
     let first = file.text.lines().next().unwrap_or("");
     match first.strip_prefix("table: ").unwrap_or("") {
-        "calls" => calls(rt, Scripted::new(alloc), file, out),
-        "scripts" => match Scripts::new(rt, alloc) {
-            Ok(mut scripts) => compare(alloc, &mut scripts, file, out),
-            Err(stop) => untried(file, stop, out),
-        },
-        "parts" => compare(alloc, &mut Parts::new(alloc), file, out),
-        table @ ("host calls" | "host requests" | "host rare calls" | "host rare requests") => {
-            on_host(rt, table, file, out)
+        "calls" => {
+            let mut calls = Calls::new(rt, alloc, Scripted::new(alloc)?);
+            Ok(compare(alloc, &mut calls, file, out)?)
         }
-        _ => untried(file, TableError::Text("no such table"), out),
-    }
-}
-
-/// Tries the rows of a file of a table over the real machine. Fails as well if the runtime doesn't
-/// return the folder for temporary files or the id of this process.
-fn on_host<R: Real + Wait, W: Write>(
-    rt: &R,
-    table: &str,
-    file: File,
-    out: &mut W,
-) -> io::Result<Counts> {
-    let text = filled(rt, file.text)?;
-    let script = Script::new(rt.alloc(), file.text)?;
-    let odd = Odd::new(rt.clone()?, script.clone()?);
-    let file = File {
-        name: file.name,
-        text: text.as_str(),
-        is_told: file.is_told,
-    };
-    match table {
-        "host calls" => calls(rt, HostMachine::new(rt, None), file, out),
-        "host requests" => host_requests(rt.alloc(), HostMachine::new(rt, None), file, out),
-        _ => on_odd(rt, &odd, script, table, file, out),
-    }
-}
-
-/// Tries the rows over a runtime with scripted results.
-fn on_odd<R: Real + Wait, P: Real, W: Write>(
-    rt: &R,
-    odd: &P,
-    script: Script,
-    table: &str,
-    file: File,
-    out: &mut W,
-) -> io::Result<Counts> {
-    let machine = HostMachine::new(odd, Some(script));
-    match table {
-        "host rare calls" => calls(rt, machine, file, out),
-        _ => host_requests(rt.alloc(), machine, file, out),
-    }
-}
-
-fn host_requests<R: Real, W: Write>(
-    alloc: Global,
-    machine: Result<HostMachine<R>, TableError>,
-    file: File,
-    out: &mut W,
-) -> io::Result<Counts> {
-    match machine {
-        Ok(mut machine) => compare(alloc, &mut machine, file, out),
-        Err(stop) => untried(file, stop, out),
-    }
-}
-
-fn calls<R: Real + Wait, M: Machine, W: Write>(
-    rt: &R,
-    machine: Result<M, TableError>,
-    file: File,
-    out: &mut W,
-) -> io::Result<Counts> {
-    match machine {
-        Ok(machine) => compare(
-            rt.alloc(),
-            &mut Calls::new(rt, rt.alloc(), machine),
-            file,
-            out,
-        ),
-        Err(stop) => untried(file, stop, out),
+        "host calls" => {
+            let text = filled(rt, file.text)?;
+            let file = File {
+                name: file.name,
+                text: text.as_str(),
+                is_told: file.is_told,
+            };
+            let mut calls = Calls::new(rt, alloc, HostMachine::new(rt)?);
+            Ok(compare(alloc, &mut calls, file, out)?)
+        }
+        "parts" => Ok(compare(alloc, &mut Parts::new(alloc), file, out)?),
+        _ => Err(TableError::Text("no such table")),
     }
 }
 
@@ -149,7 +88,13 @@ fn file<R: Real + Wait, W: Write>(
         let spent = allocations(rt.alloc(), options.spent);
         writeln!(out, "{name}\nspent {spent}")?;
     }
-    let counts = tried(rt, file, out)?;
+    let counts = match tried(rt, file, out) {
+        Ok(counts) => counts,
+        Err(stop) => {
+            writeln!(out, "1 stops: {stop}")?;
+            Counts::default()
+        }
+    };
     if options.is_told {
         let left = allocations(rt.alloc(), LEFT);
         writeln!(out, "left {left}")?;

@@ -26,10 +26,6 @@ pub trait Machine: Lender + Drop {
     /// Returns the system, the pool and the clock.
     fn stage(&mut self) -> (&mut Self::System, &mut PoolOf<Self::System>, &Self::Clock);
 
-    /// Returns another system, which stands in for the machine's while a shell has that one. Fails
-    /// on an allocation failure.
-    fn spare(&self) -> Result<Self::System, TableError>;
-
     /// Notes what the log has at this moment, if there is one: 0 is when a start begins, 1 when it
     /// has returned, and 2 when the calls since then were made.
     fn mark(&mut self, _moment: usize) {}

@@ -4,7 +4,6 @@ use duct_program::{line, perform};
 use duct_script::ScriptHook;
 use rows_table::{Bytes, arguments};
 use std::alloc::{AllocError, Global};
-use std::io::{self, Write};
 use std::sync::Wait;
 
 /// Adds the debug text of the expression that these arguments mean, or the text of the error if
@@ -18,50 +17,17 @@ pub fn push_line(text: &mut String, alloc: Global, args: &str) -> Result<(), All
     }
 }
 
-/// A stream of the program, which takes each write as one piece, and at most as many bytes as it
-/// has room for.
-#[derive(Drop)]
-struct Stream {
-    taken: Vec<u8>,
-    room: usize,
-    writes: u32,
-}
-
-impl Stream {
-    fn new(alloc: Global, room: usize) -> Result<Stream, AllocError> {
-        Ok(Stream {
-            taken: Vec::with_capacity(alloc, room)?,
-            room,
-            writes: 0,
-        })
-    }
-}
-
-impl Write for Stream {
-    fn write(&mut self, buf: &[u8]) -> io::Result<usize> {
-        let length = buf.len().min(self.room.saturating_sub(self.taken.len()));
-        let (taken, _) = buf.split_at(length);
-        self.taken.extend_from_slice(taken)?;
-        self.writes = self.writes.saturating_add(1);
-        Ok(length)
-    }
-
-    fn flush(&mut self) -> io::Result<()> {
-        Ok(())
-    }
-}
-
 /// What the program did: its status, and what it wrote.
 #[derive(Drop)]
 pub struct Performed {
     status: u8,
-    out: Stream,
-    err: Stream,
+    out: Vec<u8>,
+    err: Vec<u8>,
 }
 
 impl Performed {
-    /// Does what the program does with these arguments. The room for its output is reserved before.
-    /// Blocks until it is done. Fails on an allocation failure.
+    /// Does what the program does with these arguments. Each of its streams has room for so many
+    /// bytes. Blocks until it is done. Fails on an allocation failure.
     pub fn of<S: System>(
         rt: &impl Wait,
         alloc: Global,
@@ -70,19 +36,28 @@ impl Performed {
         room: usize,
     ) -> Result<Performed, AllocError> {
         let args = arguments(alloc, args)?;
-        let (mut out, mut err) = (Stream::new(alloc, room)?, Stream::new(alloc, room)?);
-        let status = perform(rt, alloc, system, args.as_slice(), &mut out, &mut err);
+        let (mut out, mut err) = (vec![in alloc; 0_u8; room]?, vec![in alloc; 0_u8; room]?);
+        let (mut free_out, mut free_err) = (out.as_mut_slice(), err.as_mut_slice());
+        let status = perform(
+            rt,
+            alloc,
+            system,
+            args.as_slice(),
+            &mut free_out,
+            &mut free_err,
+        );
+        let (unused_out, unused_err) = (free_out.len(), free_err.len());
+        out.truncate(room.saturating_sub(unused_out));
+        err.truncate(room.saturating_sub(unused_err));
         Ok(Performed { status, out, err })
     }
 
-    /// Adds the status, in how many writes each stream got its bytes, or what was written. Fails on
-    /// an allocation failure.
+    /// Adds the status, or what was written. Fails on an allocation failure.
     pub fn push(&self, text: &mut String, key: &str) -> Result<(), AllocError> {
         match key {
             "status" => write!(text, "{}", self.status),
-            "writes" => write!(text, "out {}, err {}", self.out.writes, self.err.writes),
-            "out" => write!(text, "{}", Bytes(self.out.taken.as_slice())),
-            _ => write!(text, "{}", Bytes(self.err.taken.as_slice())),
+            "out" => write!(text, "{}", Bytes(self.out.as_slice())),
+            _ => write!(text, "{}", Bytes(self.err.as_slice())),
         }
     }
 }

@@ -3,8 +3,7 @@ use crate::machine::{Machine, PartsOf, PoolOf};
 use duct::{Numbered, System};
 use duct_script::{Script, ScriptChild, ScriptClock, ScriptEnd};
 use rows_table::{
-    Bench, Lender, Log, Strangers, TableError, duration, most_held, program, push_lent, push_noted,
-    push_turns,
+    Bench, Lender, Log, Strangers, TableError, duration, most_held, program, push_noted, push_turns,
 };
 use std::alloc::{AllocError, Global};
 
@@ -17,8 +16,6 @@ pub struct Scripted {
     parts: String,
     /// How many calls the log had at each moment of the last start.
     marks: [u64; 3],
-    /// How many children, feeds and drains were returned.
-    returned: [usize; 3],
 }
 
 impl Scripted {
@@ -31,7 +28,6 @@ impl Scripted {
             clock: ScriptClock::new(Vec::new(alloc)),
             parts: String::new(alloc),
             marks: [0; 3],
-            returned: [0, 0, 0],
         })
     }
 
@@ -84,10 +80,6 @@ impl Machine for Scripted {
         (&mut bench.sys, &mut bench.pool, &self.clock)
     }
 
-    fn spare(&self) -> Result<Script, TableError> {
-        Ok(Script::new(self.alloc)?)
-    }
-
     fn mark(&mut self, moment: usize) {
         let (noted, [begun, started, _]) = (self.bench.calls.noted(), self.marks);
         self.marks = match moment {
@@ -98,13 +90,10 @@ impl Machine for Scripted {
     }
 
     fn line(&mut self, key: &str, text: &str, out: &mut String) -> Result<bool, TableError> {
-        let [children, feeds, drains] = self.returned;
         let [begun, started, called] = self.marks;
         match key {
             "during" => push_noted(out, &self.bench, begun, started)?,
             "calls" => push_noted(out, &self.bench, started, called)?,
-            "returns" => write!(out, "children {children}, feeds {feeds}, drains {drains}")?,
-            "lent" => push_lent(out, self.bench.sys.journal())?,
             "within" => {
                 let most = most_held(self.alloc, self.bench.sys.journal())?;
                 write!(out, "{}", most.max(text.parse().unwrap_or(0)))?;
@@ -116,10 +105,7 @@ impl Machine for Scripted {
                 let parts = self.parts.as_str();
                 out.push_str(parts.strip_suffix(", ").unwrap_or(parts))?;
             }
-            "clock" => {
-                self.set_clock(text)?;
-                return Ok(false);
-            }
+            "clock" => return self.set_clock(text).map(|()| false),
             _ if self.bench.set(self.alloc, key, text)? => return Ok(false),
             _ => return Err(TableError::Text("no such key")),
         }
@@ -142,7 +128,6 @@ impl Machine for Scripted {
 
     fn spend(&mut self, parts: PartsOf<Script>) -> Result<(), TableError> {
         let (children, feeds, drains) = parts;
-        self.returned = [children.len(), feeds.len(), drains.len()];
         self.parts.clear();
         for place in children {
             self.push_child(&place.into_child())?;

@@ -1,9 +1,8 @@
 //! Texts for the results of calls.
 use duct::{Error, Output, ReaderHandle, System};
-use duct_deadline::{Late, LateRead, Until};
+use duct_tasks::{Late, LateRead, Until};
 use rows_table::{Bytes, LONG};
 use std::alloc::{AllocError, Global};
-use std::fmt;
 use std::io::Read;
 use std::sync::{Arc, Wait};
 
@@ -20,10 +19,7 @@ pub fn push_polled(
 }
 
 /// Adds that an order was obeyed, or the text of its error.
-pub fn push_done<E: fmt::Display>(
-    text: &mut String,
-    answer: &Result<(), E>,
-) -> Result<(), AllocError> {
+pub fn push_done(text: &mut String, answer: &Result<(), Error>) -> Result<(), AllocError> {
     match answer {
         Ok(()) => text.push_str("done. "),
         Err(error) => write!(text, "{error}. "),
@@ -32,9 +28,9 @@ pub fn push_done<E: fmt::Display>(
 
 /// Adds the result of a run: a status with what was captured, how it was late, or the text of an
 /// error.
-pub fn push_run<E: fmt::Display>(
+pub fn push_run(
     text: &mut String,
-    ran: &Result<Until<Output, Late>, E>,
+    ran: &Result<Until<Output, Late>, Error>,
 ) -> Result<(), AllocError> {
     match ran {
         Ok(Until::Done(output)) => push_output(text, output),
@@ -45,9 +41,9 @@ pub fn push_run<E: fmt::Display>(
 
 /// Adds a text that was read, in quotes, or of a long one its length, or how the read was late, or
 /// the text of an error.
-pub fn push_read<E: fmt::Display>(
+pub fn push_read(
     text: &mut String,
-    read: &Result<Until<String, LateRead>, E>,
+    read: &Result<Until<String, LateRead>, Error>,
 ) -> Result<(), AllocError> {
     match read {
         Ok(Until::Done(read)) if read.len() > LONG => write!(text, "{}. ", Bytes(read.as_bytes())),

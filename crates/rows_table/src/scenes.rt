@@ -100,7 +100,11 @@ fn set_next(alloc: Global, sys: &mut Script, key: &str, text: &str) -> Result<()
         "refuse" => {
             let (name, rest) = first_word(text.trim());
             let (number, kind) = first_word(rest);
-            sys.refuse_sort(named(&SORTS, name)?, number.parse()?, fault(kind)?)?;
+            let (number, fault) = (number.parse()?, fault(kind)?);
+            match name {
+                "any" => sys.refuse(number, fault)?,
+                name => sys.refuse_sort(named(&SORTS, name)?, number, fault)?,
+            }
         }
         "children" => sys.child(child_script(alloc, text)?)?,
         "feeds" => sys.feed(Answers::of(answers(alloc, text)?))?,

@@ -32,16 +32,6 @@ pub struct File<'t> {
     pub is_told: bool,
 }
 
-/// Writes why no row of a file can be tried, and returns counts with one difference. Fails if the
-/// output can't be written.
-pub fn untried<W: Write>(file: File, stop: TableError, out: &mut W) -> io::Result<Counts> {
-    let _ = goes_on(file, 1, "", &Err(stop), "", out)?;
-    Ok(Counts {
-        compared: 0,
-        differing: 1,
-    })
-}
-
 /// Reads the rows of a file, and writes a line for each difference, or for each text that is found:
 /// the file, the number of the line, and what was found and wanted, or the reason why the row
 /// stopped. After a difference or a stop, the later lines of the row are skipped. Returns the

@@ -1,10 +1,10 @@
-//! Texts for the entries of journals and for specs, and for what came of a start over the scripted
-//! system.
+//! Texts for the entries of journals, and for what came of a start over the scripted system.
 use crate::scenes::{Bench, FIRST};
 use crate::stop::TableError;
-use duct::{CommandSpec, Entry, Pool, Stdio, Stream, System};
-use duct_plan::{Source, fault_of, opened_numbers, origin, spent_numbers, trace};
-use duct_script::{Call, CallLog, Sort, Words};
+use duct::{CommandSpec, Entry, Pool, Stdio, System};
+use duct_script::{
+    Call, CallLog, Sort, Source, Words, fault_of, opened_numbers, origin, spent_numbers, trace,
+};
 use std::alloc::{AllocError, Global};
 use std::slice;
 
@@ -25,30 +25,11 @@ pub fn push_journal(text: &mut String, journal: &[Entry]) -> Result<(), AllocErr
     Ok(())
 }
 
-/// Adds the words of a spec, its folder, its variables, and where its streams go. Fails on an
-/// allocation failure.
-pub fn push_spec(text: &mut String, spec: &CommandSpec) -> Result<(), TableError> {
-    write!(text, "{:?} {:?}", spec.words(), spec.folder())?;
-    push_variables(text, spec)?;
-    let ports = [Stream::In, Stream::Out, Stream::Err].map(|stream| spec.port(stream));
-    Ok(write!(text, " {ports:?}")?)
-}
-
 fn push_variables(text: &mut String, spec: &CommandSpec) -> Result<(), TableError> {
     for (name, value) in spec.vars()?.iter() {
         write!(text, " {name}={value}")?;
     }
     Ok(())
-}
-
-/// Adds where an end comes from. An end that was opened is shown by its number. Fails on an
-/// allocation failure.
-pub fn push_source(text: &mut String, source: Source) -> Result<(), AllocError> {
-    match source {
-        Source::Opened(number) => write!(text, " {number}"),
-        Source::ParentOf(side) => write!(text, " parent-{side:?}"),
-        Source::Lent(number) => write!(text, " lent-{number}"),
-    }
 }
 
 /// Adds the entries of the trace. An entry that was refused has the kind of its fault. An end is
@@ -124,7 +105,8 @@ impl Tracing<'_> {
         self.text.push_str(word)?;
         let number = match origin(self.entries, end) {
             Source::Opened(number) => number,
-            source => return push_source(self.text, source),
+            Source::ParentOf(side) => return write!(self.text, " parent-{side:?}"),
+            Source::Lent(number) => return write!(self.text, " lent-{number}"),
         };
         for (place, entry) in self.trace.iter().enumerate() {
             if let Some(end) = end_of(entry, number) {
@@ -164,21 +146,6 @@ pub fn push_pool<C: Drop>(text: &mut String, pool: &Pool<C>) -> Result<(), Alloc
         "len {}, given {given}, reaped {reaped}, lost {lost}",
         pool.len()
     )
-}
-
-/// Adds the numbers of the lent ends for which a duplicate was requested, in order. Fails on an
-/// allocation failure.
-pub fn push_lent(text: &mut String, entries: &[Entry]) -> Result<(), AllocError> {
-    for entry in entries {
-        match entry {
-            Entry::Duplicate(end, _) if *end < FIRST => {
-                begin(text)?;
-                write!(text, "{end}")?;
-            }
-            _ => {}
-        }
-    }
-    Ok(())
 }
 
 /// Returns the greatest number of ends that were held at once. Fails on an allocation failure.

@@ -1,7 +1,7 @@
 //! Parts of the lines of tables, and the names of streams and of kinds of faults.
 use crate::stop::TableError;
 use duct_base::spec::Stream;
-use duct_base::system::{Fault, Side};
+use duct_base::system::Fault;
 use std::alloc::{AllocError, Global};
 use std::io::{self, ErrorKind};
 use std::sync::Arc;
@@ -71,18 +71,13 @@ pub fn stream(name: &str) -> Result<Stream, TableError> {
     )
 }
 
-/// Returns the parent's output stream with this name: `out` or `err`. Fails for any other name.
-pub fn side(name: &str) -> Result<Side, TableError> {
-    named(&[("out", Side::Out), ("err", Side::Err)], name)
-}
-
 /// Returns a fault of the kind with this name. Fails if there is no such kind.
 pub fn fault(kind: &str) -> Result<Fault, TableError> {
     Ok(Fault::from(io::Error::from(named(&ERROR_KINDS, kind)?)))
 }
 
 /// The kinds of errors by their names.
-pub const ERROR_KINDS: [(&str, ErrorKind); 14] = [
+pub const ERROR_KINDS: [(&str, ErrorKind); 10] = [
     ("NotFound", ErrorKind::NotFound),
     ("PermissionDenied", ErrorKind::PermissionDenied),
     ("BrokenPipe", ErrorKind::BrokenPipe),
@@ -92,10 +87,6 @@ pub const ERROR_KINDS: [(&str, ErrorKind); 14] = [
     ("OutOfMemory", ErrorKind::OutOfMemory),
     ("Interrupted", ErrorKind::Interrupted),
     ("TimedOut", ErrorKind::TimedOut),
-    ("WouldBlock", ErrorKind::WouldBlock),
-    ("ConnectionReset", ErrorKind::ConnectionReset),
-    ("NotConnected", ErrorKind::NotConnected),
-    ("UnexpectedEof", ErrorKind::UnexpectedEof),
     ("Other", ErrorKind::Other),
 ];
 
@@ -108,4 +99,13 @@ pub fn duration(text: &str) -> Result<Duration, TableError> {
         Some(count) => Ok(Duration::from_nanos(count.parse()?)),
         None => Ok(Duration::from_secs(text.strip_suffix('s').unwrap_or(text).parse()?)),
     }
+}
+
+/// Reads for how long an expression may run, and its grace: `5s 2s`. An empty text has no limits.
+pub fn limits(text: &str) -> Result<Option<(Duration, Duration)>, TableError> {
+    if text.is_empty() {
+        return Ok(None);
+    }
+    let (limit, grace) = first_word(text);
+    Ok(Some((duration(limit)?, duration(grace)?)))
 }

@@ -1,4 +1,3 @@
-pub mod Ended
+pub mod Exits
 pub mod Orders
 pub mod Results
-pub mod Starts

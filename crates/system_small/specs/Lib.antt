@@ -1,4 +1,3 @@
 pub mod ChildView
 pub mod Exits
 pub mod Told
-pub mod WorkerView

@@ -1,7 +1,6 @@
 use Rattle.std.proofs.Common.{arith, codes, map, refl, string_bytes}
 use Rattle.duct_tree.specs.Text.{printed}
-use Rattle.duct_report.specs.EntryForm.{of_text}
-use Rattle.duct_plan.specs.PlanForm.{arguments_form}
+use Rattle.duct_plan.specs.PlanForm.{arguments_form, of_text}
 use Rattle.duct_plan.proofs.Written.{continues_more, continues_end}
 use Rattle.duct_plan.proofs.text.write_arguments.Goals as goal
 

@@ -2,7 +2,7 @@ use Rattle.std.specs.Prelude.{pos}
 use Rattle.std.proofs.Common.{ap}
 use Rattle.duct_status.specs.ShapeView.{shape_view}
 use Rattle.duct_system.specs.declared.system.Order.TheVariants.{Signal}
-use Rattle.duct_deadline.proofs.Signalled.{numbers_after}
+use Rattle.duct_tasks.proofs.Signalled.{numbers_after}
 use Rattle.duct_tasks.proofs.once.ask.Goals as goal
 
 pub returns : goal.returns

@@ -1,7 +1,7 @@
 use Rattle.std.proofs.Common.{ap}
 use Rattle.duct_status.specs.ShapeView.{shape_view}
 use Rattle.duct_system.specs.declared.system.Order.TheVariants.{Kill}
-use Rattle.duct_deadline.proofs.Signalled.{numbers_after}
+use Rattle.duct_tasks.proofs.Signalled.{numbers_after}
 use Rattle.duct_tasks.proofs.once.kill.Goals as goal
 
 pub returns : goal.returns

@@ -3,7 +3,7 @@ use Rattle.std.proofs.Common.{ap, refl}
 use Rattle.duct_status.specs.ShapeView.{shape_view}
 use Rattle.duct_system.specs.declared.system.Order.TheVariants.{Signal}
 use Rattle.duct_run.proofs.Seeing.{views_of}
-use Rattle.duct_deadline.proofs.Signalled.{numbers_after}
+use Rattle.duct_tasks.proofs.Signalled.{numbers_after}
 use Rattle.duct_tasks.specs.Turns.{Advances}
 use Rattle.duct_tasks.specs.declared.task.Task.TheVariants.{Running}
 use Rattle.duct_tasks.proofs.task.terminate.Goals as goal

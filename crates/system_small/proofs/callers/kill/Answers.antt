@@ -1,6 +1,5 @@
-use Rattle.duct_system.specs.declared.system.Order.TheVariants.{Kill}
 use Rattle.system_small.proofs.Orders.{unnoted}
 use Rattle.system_small.proofs.callers.kill.Goals as goal
 
 pub returns : goal.returns
-returns g c = unnoted Kill c.args.handle.now.numbers.children c.kill.result c.kill.ensures
+returns g c = unnoted c.args.handle.now.numbers.children c.kill.result c.kill.ensures

@@ -1,6 +1,6 @@
 use Rattle.std.proofs.lemmas.Result.{IfOk-weaker}
 use Rattle.duct.specs.TreeView.{tree_view}
-use Rattle.system_small.proofs.Starts.{prints, run_failing, tree_concluded}
+use Rattle.system_small.proofs.Results.{prints, run_failing, tree_concluded}
 use Rattle.system_small.proofs.callers.read.Goals as goal
 
 pub returns : goal.returns

@@ -2,7 +2,7 @@ use Rattle.std.proofs.Common.{refl, sym, ◌∙◌, inr, rules, ap, arith, map, 
 use Rattle.std.proofs.lemmas.Grind.{common_steps}
 use Rattle.duct_system.specs.Journal.{JournalView}
 use Rattle.duct_system.specs.Streams.{stream_of, ends_of}
-use Rattle.duct_guard.specs.declared.child.GuardedChild.{GuardedChild}
+use Rattle.duct_guard.specs.declared.crew.GuardedChild.{GuardedChild}
 use Rattle.duct_guard.specs.GuardView.{GuardView}
 use Rattle.duct_guard.proofs.Beginning.{begun_still}
 use Rattle.duct_guard.proofs.Below.{none_asked, one_asked}

@@ -8,4 +8,5 @@ use Rattle.duct_plan.proofs.text.PlanTextDisplay.fmt.Goals as goal
 pub returns-clause-writes : goal.returns-clause-writes
 returns-clause-writes g c =
     let form = plan_form (plan_view c.args.self.now.0.now) in
-    displays_if _ _ _ _ (is_form_printable form) (printed form) (form_text form) (form_prints form) c.write_plan.ensures
+    displays_if _ _ _ _ (is_form_printable form) (printed form) (form_text form) (form_prints form)
+    (rw c.as_slice.ensures.value at c.write_lines.ensures)

@@ -1,7 +1,6 @@
 use Rattle.duct_shell.proofs.Lateness.{late_implies}
 use Rattle.duct_shell.proofs.shell.Shell.run_for.Goals as goal
 
--- src/limit.rt:28:5
 pub returns-in-Ok-clause-grace : goal.returns-in-Ok-clause-grace
 returns-in-Ok-clause-grace g c =
     late_implies c.in-Ok.until

@@ -1,5 +1,4 @@
 use Rattle.duct_shell.proofs.shell.Shell.wait.Goals as goal
 
--- src/shell.rt:314:5
 pub returns-in-Err-clause-err : goal.returns-in-Err-clause-err
 returns-in-Err-clause-err g c = rw c.from.ensures.error c.in-Err.ensures.err

@@ -1,6 +1,0 @@
-use Rattle.std.proofs.Common.{rules}
-use Rattle.duct_attempts.proofs.EachAttempt.{at_values, each_attempt}
-use Rattle.duct_attempts.proofs.expression.run_attempts.Goals as goal
-
-pub returns : goal.returns
-returns g c = each_attempt _ _ _ _ _ _ _ (at_values _ _ _ (λ first second r one two met. search rules)) c.attempts.ensures

@@ -1,4 +1,0 @@
-pub mod Moment
-pub mod ReadUntil
-pub mod Stopped
-pub mod Until

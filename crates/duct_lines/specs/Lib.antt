@@ -1,5 +1,0 @@
-pub mod Captures
-pub mod Copies
-pub mod Ended
-pub mod LastLines
-pub mod Lines

@@ -1,9 +1,0 @@
--- What was read so far, followed by what is read of the rest.
-use Rattle.std.proofs.Common.{List, ◌++◌, Ok, Err}
-use Rattle.std.specs.declared.result.Result.{Result}
-use Rattle.duct_record.specs.declared.error.Refusal.{Refusal}
-
--- these values, followed by those that are read
-abbrev pub behind : {A : Type 0} → List A → Result (List A) Refusal → Result (List A) Refusal
-behind done (Ok more) = Ok (done ++ more)
-behind done (Err refusal) = Err refusal

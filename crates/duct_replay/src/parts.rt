@@ -1,0 +1,366 @@
+//! The parts of an entry, read from a line's JSON.
+ghost use Rattle.std.specs.Prelude.{[], map, string_bytes};
+ghost use Rattle.std.specs.Option.{option_map};
+ghost use Rattle.duct_system.specs.SpecView.{pair_text};
+ghost use Rattle.duct_replay.specs.Meant.{text_meant, number_meant, list_meant, first_meant, only_meant, kind_named, fault_meant, answer_meant, unit_meant, ends_meant, unit_answer, number_answer, ends_answer, text_answer, value_meant, pair_meant, variable_meant, variables_meant, variables_answer, byte_meant, bytes_meant, folder_meant, port_named, port_meant, stream_named, stream_meant, ports_meant, streams_meant, side_named, all_meant, words_meant};
+ghost use Rattle.duct_replay.specs.Parsed.{ParsesAs, returned_view};
+ghost use Rattle.serde_json.specs.View.{view};
+
+use crate::error::Refusal;
+use duct_system::spec::Port;
+use duct_system::system::{Fault, Kind, Side, Stdio};
+use serde_json::Value;
+use std::alloc::Global;
+
+// ---- values
+
+/// The text of a value.
+#[tactic(auto, unfolding(crate::specs::Meant::text_meant))]
+pub(crate) fn text(value: &Value) -> Result<&str, Refusal>
+    ensures { ParsesAs (λ text. text.now) result (text_meant (view value.now)) }
+{
+    value.as_str().ok_or(Refusal::NotEntry)
+}
+
+/// A copy of the text of a value.
+pub(crate) fn text_copy(alloc: Global, value: &Value) -> Result<String, Refusal>
+    ensures { ParsesAs string_bytes result (text_meant (view value.now)) }
+{
+    Ok(String::from_str(alloc, text(value)?)?)
+}
+
+/// The number that a value is.
+#[tactic(auto, unfolding(crate::specs::Meant::number_meant))]
+pub(crate) fn number(value: &Value) -> Result<u64, Refusal>
+    ensures { ParsesAs (λ n. n) result (number_meant (view value.now)) }
+{
+    value.as_u64().ok_or(Refusal::NotEntry)
+}
+
+/// The items of an array.
+#[tactic(auto, using(crate::proofs::Lists::list_of_items), unfolding(crate::specs::Meant::list_meant))]
+pub(crate) fn list(value: &Value) -> Result<&[Value], Refusal>
+    ensures { ParsesAs (λ items. map view items.now) result (list_meant (view value.now)) }
+{
+    match value.as_array() {
+        Some(items) => Ok(items.as_slice()),
+        None => Err(Refusal::NotEntry),
+    }
+}
+
+/// The first of these, and those behind it.
+#[tactic(auto, unfolding(crate::specs::Meant::first_meant))]
+pub(crate) fn first(items: &[Value]) -> Result<(&Value, &[Value]), Refusal>
+    ensures { ParsesAs (λ parts. (view parts.0.now, map view parts.1.now)) result
+        (first_meant (map view items.now)) }
+{
+    items.split_first().ok_or(Refusal::NotEntry)
+}
+
+/// The item of these that is the only one.
+#[tactic(auto, unfolding(crate::specs::Meant::only_meant))]
+pub(crate) fn only(items: &[Value]) -> Result<&Value, Refusal>
+    ensures { ParsesAs (λ item. view item.now) result (only_meant (map view items.now)) }
+{
+    match items {
+        [item] => Ok(item),
+        _ => Err(Refusal::NotEntry),
+    }
+}
+
+// ---- answers
+
+// The kind of fault with this name.
+#[tactic(auto, unfolding(crate::specs::Meant::kind_named))]
+fn kind_named(name: &str) -> Result<Kind, Refusal>
+    ensures { ParsesAs (λ kind. kind) result (kind_named name.now) }
+{
+    match name {
+        "NotFound" => Ok(Kind::NotFound),
+        "PermissionDenied" => Ok(Kind::PermissionDenied),
+        "BrokenPipe" => Ok(Kind::BrokenPipe),
+        "WriteZero" => Ok(Kind::WriteZero),
+        "InvalidInput" => Ok(Kind::InvalidInput),
+        "Unsupported" => Ok(Kind::Unsupported),
+        "OutOfMemory" => Ok(Kind::OutOfMemory),
+        "Other" => Ok(Kind::Other),
+        _ => Err(Refusal::NotEntry),
+    }
+}
+
+// The fault whose kind stands alone here.
+#[tactic(auto, unfolding(crate::specs::Meant::fault_meant))]
+fn fault(values: &[Value]) -> Result<Fault, Refusal>
+    ensures { ParsesAs (λ fault. fault) result (fault_meant (map view values.now)) }
+{
+    let kind = kind_named(text(only(values)?)?)?;
+    Ok(Fault::new(kind))
+}
+
+// An answer: what was returned, or a fault.
+#[tactic(auto, unfolding(crate::specs::Meant::answer_meant))]
+fn answer(items: &[Value]) -> Result<Result<&[Value], Fault>, Refusal>
+    ensures { ParsesAs (returned_view (λ values. map view values.now)) result
+        (answer_meant (map view items.now)) }
+{
+    let (word, values) = first(items)?;
+    match text(word)? {
+        "ok" => Ok(Ok(values)),
+        "fault" => Ok(Err(fault(values)?)),
+        _ => Err(Refusal::NotEntry),
+    }
+}
+
+/// An answer that returned nothing.
+#[tactic(auto, unfolding(crate::specs::Meant::unit_answer, crate::specs::Meant::unit_meant))]
+pub(crate) fn unit_answer(items: &[Value]) -> Result<Result<(), Fault>, Refusal>
+    ensures { ParsesAs (λ answer. answer) result (unit_answer (map view items.now)) }
+{
+    match answer(items)? {
+        Ok([]) => Ok(Ok(())),
+        Ok(_) => Err(Refusal::NotEntry),
+        Err(fault) => Ok(Err(fault)),
+    }
+}
+
+/// An answer that returned a number.
+#[tactic(auto, unfolding(crate::specs::Meant::number_answer))]
+pub(crate) fn number_answer(items: &[Value]) -> Result<Result<u64, Fault>, Refusal>
+    ensures { ParsesAs (λ answer. answer) result (number_answer (map view items.now)) }
+{
+    match answer(items)? {
+        Ok(values) => Ok(Ok(number(only(values)?)?)),
+        Err(fault) => Ok(Err(fault)),
+    }
+}
+
+/// An answer that returned a read end and a write end.
+#[tactic(auto, unfolding(crate::specs::Meant::ends_answer, crate::specs::Meant::ends_meant))]
+pub(crate) fn ends_answer(items: &[Value]) -> Result<Result<(u64, u64), Fault>, Refusal>
+    ensures { ParsesAs (λ answer. answer) result (ends_answer (map view items.now)) }
+{
+    match answer(items)? {
+        Ok([reader, writer]) => Ok(Ok((number(reader)?, number(writer)?))),
+        Ok(_) => Err(Refusal::NotEntry),
+        Err(fault) => Ok(Err(fault)),
+    }
+}
+
+/// An answer that returned a text.
+#[tactic(auto, unfolding(crate::specs::Meant::text_answer))]
+pub(crate) fn text_answer(alloc: Global, items: &[Value]) -> Result<Result<String, Fault>, Refusal>
+    ensures { ParsesAs (returned_view string_bytes) result (text_answer (map view items.now)) }
+{
+    match answer(items)? {
+        Ok(values) => Ok(Ok(text_copy(alloc, only(values)?)?)),
+        Err(fault) => Ok(Err(fault)),
+    }
+}
+
+/// An answer that returned variables.
+#[tactic(auto, unfolding(crate::specs::Meant::variables_answer))]
+pub(crate) fn variables_answer(
+    alloc: Global,
+    items: &[Value],
+) -> Result<Result<Vec<(String, String)>, Fault>, Refusal>
+    ensures { ParsesAs (returned_view (λ pairs. map pair_text pairs.items)) result
+        (variables_answer (map view items.now)) }
+{
+    match answer(items)? {
+        Ok(values) => Ok(Ok(variables(alloc, only(values)?)?)),
+        Err(fault) => Ok(Err(fault)),
+    }
+}
+
+// ---- variables, words, bytes
+
+/// Names with their values.
+#[tactic(auto, unfolding(crate::specs::Meant::variables_meant))]
+pub(crate) fn variables(alloc: Global, value: &Value) -> Result<Vec<(String, String)>, Refusal>
+    ensures { ParsesAs (λ pairs. map pair_text pairs.items) result
+        (variables_meant (view value.now)) }
+{
+    variables_of(alloc, list(value)?)
+}
+
+// The variables that these values are.
+fn variables_of(alloc: Global, values: &[Value]) -> Result<Vec<(String, String)>, Refusal>
+    ensures { ParsesAs (λ pairs. map pair_text pairs.items) result
+        (all_meant variable_meant (map view values.now)) }
+{
+    let mut pairs = Vec::new(alloc);
+    let mut rest = values;
+    while let Some((value, behind)) = rest.split_first() {
+        pairs.push(variable(alloc, value)?)?;
+        rest = behind;
+    }
+    Ok(pairs)
+}
+
+// A name with its value.
+#[tactic(auto, unfolding(crate::specs::Meant::variable_meant, crate::specs::Meant::pair_meant))]
+fn variable(alloc: Global, value: &Value) -> Result<(String, String), Refusal>
+    ensures { ParsesAs pair_text result (variable_meant (view value.now)) }
+{
+    match list(value)? {
+        [name, value] => Ok((text_copy(alloc, name)?, variable_value(alloc, value)?)),
+        _ => Err(Refusal::NotEntry),
+    }
+}
+
+// The value of a variable.
+#[tactic(auto, unfolding(crate::specs::Meant::value_meant))]
+fn variable_value(alloc: Global, value: &Value) -> Result<String, Refusal>
+    ensures { ParsesAs string_bytes result (value_meant (view value.now)) }
+{
+    match value {
+        Value::Null => Err(Refusal::Hidden),
+        Value::String(text) => Ok(String::from_str(alloc, text.as_str())?),
+        Value::Bool(_) | Value::Number(_) | Value::Array(_) | Value::Object(_) => {
+            Err(Refusal::NotEntry)
+        }
+    }
+}
+
+/// Words.
+#[tactic(auto, unfolding(crate::specs::Meant::words_meant))]
+pub(crate) fn words(alloc: Global, value: &Value) -> Result<Vec<String>, Refusal>
+    ensures { ParsesAs (λ words. map string_bytes words.items) result
+        (words_meant (view value.now)) }
+{
+    words_of(alloc, list(value)?)
+}
+
+// The words of these values.
+fn words_of(alloc: Global, values: &[Value]) -> Result<Vec<String>, Refusal>
+    ensures { ParsesAs (λ words. map string_bytes words.items) result
+        (all_meant text_meant (map view values.now)) }
+{
+    let mut words = Vec::new(alloc);
+    let mut rest = values;
+    while let Some((value, behind)) = rest.split_first() {
+        words.push(text_copy(alloc, value)?)?;
+        rest = behind;
+    }
+    Ok(words)
+}
+
+/// Bytes: those of a text, or the numbers of an array.
+#[tactic(auto, unfolding(crate::specs::Meant::bytes_meant))]
+pub(crate) fn bytes(alloc: Global, value: &Value) -> Result<Vec<u8>, Refusal>
+    ensures { ParsesAs (λ bytes. bytes.items) result (bytes_meant (view value.now)) }
+{
+    match value.as_str() {
+        Some(text) => Ok(Vec::from_slice(alloc, text.as_bytes())?),
+        None => numbered_bytes(alloc, list(value)?),
+    }
+}
+
+// Bytes that are written as numbers.
+fn numbered_bytes(alloc: Global, values: &[Value]) -> Result<Vec<u8>, Refusal>
+    ensures { ParsesAs (λ bytes. bytes.items) result (all_meant byte_meant (map view values.now)) }
+{
+    let mut bytes = Vec::new(alloc);
+    let mut rest = values;
+    while let Some((value, behind)) = rest.split_first() {
+        bytes.push(byte(value)?)?;
+        rest = behind;
+    }
+    Ok(bytes)
+}
+
+// A number below 256.
+#[tactic(auto, unfolding(crate::specs::Meant::byte_meant))]
+fn byte(value: &Value) -> Result<u8, Refusal>
+    ensures { ParsesAs (λ byte. byte) result (byte_meant (view value.now)) }
+{
+    let number = number(value)?;
+    if number < 256 {
+        Ok(number as u8)
+    } else {
+        Err(Refusal::NotEntry)
+    }
+}
+
+// ---- folders, ports, streams
+
+/// A folder, or none where it is null.
+#[tactic(auto, unfolding(crate::specs::Meant::folder_meant))]
+pub(crate) fn folder(alloc: Global, value: &Value) -> Result<Option<String>, Refusal>
+    ensures { ParsesAs (option_map string_bytes) result (folder_meant (view value.now)) }
+{
+    match value {
+        Value::Null => Ok(None),
+        Value::String(text) => Ok(Some(String::from_str(alloc, text.as_str())?)),
+        Value::Bool(_) | Value::Number(_) | Value::Array(_) | Value::Object(_) => {
+            Err(Refusal::NotEntry)
+        }
+    }
+}
+
+/// The three ports.
+#[tactic(auto, unfolding(crate::specs::Meant::ports_meant))]
+pub(crate) fn ports(value: &Value) -> Result<(Port, Port, Port), Refusal>
+    ensures { ParsesAs (λ ports. ports) result (ports_meant (view value.now)) }
+{
+    match list(value)? {
+        [input, output, error] => Ok((port(input)?, port(output)?, port(error)?)),
+        _ => Err(Refusal::NotEntry),
+    }
+}
+
+// A port: its name, or the place of an end.
+#[tactic(auto, unfolding(crate::specs::Meant::port_meant, crate::specs::Meant::port_named, crate::specs::Meant::number_meant))]
+fn port(value: &Value) -> Result<Port, Refusal>
+    ensures { ParsesAs (λ port. port) result (port_meant (view value.now)) }
+{
+    match value {
+        Value::String(name) => match name.as_str() {
+            "inherit" => Ok(Port::Inherit),
+            "null" => Ok(Port::Null),
+            "given" => Ok(Port::Given),
+            _ => Err(Refusal::NotEntry),
+        },
+        Value::Number(_) => Ok(Port::Place(number(value)? as usize)),
+        Value::Null | Value::Bool(_) | Value::Array(_) | Value::Object(_) => Err(Refusal::NotEntry),
+    }
+}
+
+/// The three streams.
+#[tactic(auto, unfolding(crate::specs::Meant::streams_meant))]
+pub(crate) fn streams(value: &Value) -> Result<(Stdio<u64>, Stdio<u64>, Stdio<u64>), Refusal>
+    ensures { ParsesAs (λ streams. streams) result (streams_meant (view value.now)) }
+{
+    match list(value)? {
+        [input, output, error] => Ok((stream(input)?, stream(output)?, stream(error)?)),
+        _ => Err(Refusal::NotEntry),
+    }
+}
+
+// A stream: its name, or the number of its end.
+#[tactic(auto, unfolding(crate::specs::Meant::stream_meant, crate::specs::Meant::stream_named, crate::specs::Meant::number_meant))]
+fn stream(value: &Value) -> Result<Stdio<u64>, Refusal>
+    ensures { ParsesAs (λ stream. stream) result (stream_meant (view value.now)) }
+{
+    match value {
+        Value::String(name) => match name.as_str() {
+            "inherit" => Ok(Stdio::Inherit),
+            "null" => Ok(Stdio::Null),
+            _ => Err(Refusal::NotEntry),
+        },
+        Value::Number(_) => Ok(Stdio::End(number(value)?)),
+        Value::Null | Value::Bool(_) | Value::Array(_) | Value::Object(_) => Err(Refusal::NotEntry),
+    }
+}
+
+/// The output stream of the parent with this name.
+#[tactic(auto, unfolding(crate::specs::Meant::side_named))]
+pub(crate) fn side_named(name: &str) -> Result<Side, Refusal>
+    ensures { ParsesAs (λ side. side) result (side_named name.now) }
+{
+    match name {
+        "stdout" => Ok(Side::Out),
+        "stderr" => Ok(Side::Err),
+        _ => Err(Refusal::NotEntry),
+    }
+}

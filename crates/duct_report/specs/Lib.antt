@@ -1,3 +1,0 @@
-pub mod EntryForm
-pub mod FailedRequest
-pub mod RequestText

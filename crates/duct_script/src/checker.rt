@@ -1,0 +1,235 @@
+//! Plain functions that read a journal: which ends were returned and spent, whether these balance,
+//! the trace, and where an end comes from.
+ghost use Rattle.std.specs.Prelude.{◌≡◌, ◌++◌, ◌↔◌, map, IfOk, OnOk, IsTrue};
+ghost use Rattle.duct_system.specs.EntryView.{entry_view};
+ghost use Rattle.duct_system.specs.Trace.{trace, is_traced, fault_of};
+ghost use Rattle.duct_system.specs.Ledger.{opened_numbers, opened_by, spent_numbers, spent_by, count_of, IsBalanced, open_count};
+ghost use Rattle.duct_system.specs.Origin.{origin};
+ghost use Rattle.duct_system.specs.Streams.{ends_of};
+ghost use Rattle.duct_script.specs.Balance.{Balances, BalancesAt, AllBalance};
+ghost use Rattle.duct_script.specs.Source.{origin_of, Steps};
+
+use duct_system::system::{Entry, Fault, Side, Stdio};
+use std::alloc::{AllocError, Global};
+
+/// Where an end comes from.
+#[derive(Clone, Copy, Debug, PartialEq, Eq)]
+pub enum Source {
+    /// It is the end with this number, which a pipe or a file request returned, or a duplicate of
+    /// it.
+    Opened(u64),
+    /// It is a duplicate of this stream of the parent.
+    ParentOf(Side),
+    /// It is the end with this number, which no entry returned, or a duplicate of it: the end was
+    /// lent.
+    Lent(u64),
+}
+
+/// Returns the numbers of the ends that requests returned, in order. Fails only on allocation
+/// failure.
+pub fn opened_numbers(alloc: Global, entries: &[Entry]) -> Result<Vec<u64>, AllocError>
+    ensures { IfOk result (λ numbers. numbers.items ≡ opened_numbers (map entry_view entries.now)) }
+{
+    let mut numbers = Vec::new(alloc);
+    for entry in entries {
+        push_got(&mut numbers, entry)?;
+    }
+    Ok(numbers)
+}
+
+/// Returns the numbers of the ends that were spent, in order: those that a request took. Fails only
+/// on allocation failure.
+pub fn spent_numbers(alloc: Global, entries: &[Entry]) -> Result<Vec<u64>, AllocError>
+    ensures { IfOk result (λ numbers. numbers.items ≡ spent_numbers (map entry_view entries.now)) }
+{
+    let mut numbers = Vec::new(alloc);
+    for entry in entries {
+        push_spent(&mut numbers, entry)?;
+    }
+    Ok(numbers)
+}
+
+/// Returns whether the spent numbers are the returned ones, in some order, each number once. Fails
+/// only on allocation failure.
+pub fn is_balanced(alloc: Global, entries: &[Entry]) -> Result<bool, AllocError>
+    ensures { IfOk result (λ balanced. IsTrue balanced ↔ IsBalanced (map entry_view entries.now)) }
+{
+    let got = opened_numbers(alloc, entries)?;
+    let spent = spent_numbers(alloc, entries)?;
+    Ok(balance(got.as_slice(), spent.as_slice()))
+}
+
+/// Returns how many ends were returned and are not spent yet. Fails only on allocation failure.
+pub fn open_count(alloc: Global, entries: &[Entry]) -> Result<usize, AllocError>
+    ensures { IfOk result (λ count. count ≡ open_count (map entry_view entries.now)) }
+{
+    let got = opened_numbers(alloc, entries)?.len();
+    let spent = spent_numbers(alloc, entries)?.len();
+    Ok(got.saturating_sub(spent))
+}
+
+/// Returns the entries that a plan covers: all but duplicates, ends of the parent's streams, and
+/// closes. Fails only on allocation failure.
+pub fn trace(alloc: Global, entries: &[Entry]) -> Result<Vec<&Entry>, AllocError>
+    ensures { IfOk result
+        (λ traced. map (λ e. entry_view e.now) traced.items ≡ trace (map entry_view entries.now)) }
+{
+    let mut traced = Vec::new(alloc);
+    for entry in entries {
+        if in_trace(entry) {
+            traced.push(entry)?;
+        }
+    }
+    Ok(traced)
+}
+
+/// Returns whether a plan covers this entry.
+pub fn in_trace(entry: &Entry) -> bool
+    ensures { result ≡ is_traced (entry_view entry.now) }
+{
+    !matches!(
+        entry,
+        Entry::Duplicate(_, _) | Entry::Parent(_, _) | Entry::Close(_)
+    )
+}
+
+/// Returns where the end with this number comes from.
+pub fn origin(entries: &[Entry], number: u64) -> Source
+    ensures { origin_of result ≡ origin (map entry_view entries.now) number }
+{
+    let mut number = number;
+    let mut left = entries;
+    while let Some((last, earlier)) = left.split_last() {
+        match step_back(last, number) {
+            Step::Found(source) => return source,
+            Step::From(lent) => number = lent,
+        }
+        left = earlier;
+    }
+    Source::Lent(number)
+}
+
+/// What an entry tells about where an end comes from.
+#[derive(Clone, Copy, Drop)]
+enum Step {
+    /// It comes from here.
+    Found(Source),
+    /// It comes from where the end with this number comes from, according to the entries before
+    /// this one.
+    From(u64),
+}
+
+/// Returns what an entry tells about where the end with this number comes from.
+fn step_back(entry: &Entry, number: u64) -> Step
+    ensures { Steps (entry_view entry.now) number result }
+{
+    match entry {
+        Entry::Pipe(Ok((reader, writer))) if number == *reader || number == *writer => {
+            Step::Found(Source::Opened(number))
+        }
+        Entry::OpenRead(_, Ok(end)) if number == *end => Step::Found(Source::Opened(number)),
+        Entry::Create(_, Ok(end)) if number == *end => Step::Found(Source::Opened(number)),
+        Entry::Parent(side, Ok(end)) if number == *end => Step::Found(Source::ParentOf(*side)),
+        Entry::Duplicate(lent, Ok(end)) if number == *end => Step::From(*lent),
+        _ => Step::From(number),
+    }
+}
+
+/// Returns whether each number occurs equally often in both lists, and at most once.
+fn balance(got: &[u64], spent: &[u64]) -> bool
+    ensures { IsTrue result ↔ Balances got.now spent.now }
+{
+    all_balance(got, got, spent) && all_balance(spent, got, spent)
+}
+
+/// Returns whether each of these numbers occurs equally often in both lists, and at most once.
+fn all_balance(numbers: &[u64], got: &[u64], spent: &[u64]) -> bool
+    ensures { IsTrue result ↔ AllBalance got.now spent.now numbers.now }
+{
+    for number in numbers {
+        if !balances_at(*number, got, spent) {
+            return false;
+        }
+    }
+    true
+}
+
+/// Returns whether this number occurs equally often in both lists, and at most once.
+fn balances_at(number: u64, got: &[u64], spent: &[u64]) -> bool
+    ensures { IsTrue result ↔ BalancesAt got.now spent.now number }
+{
+    let times_got = count_of(number, got);
+    times_got <= 1 && count_of(number, spent) == times_got
+}
+
+/// Returns how often a number occurs in a list.
+fn count_of(number: u64, numbers: &[u64]) -> usize
+    ensures { result ≡ count_of number numbers.now }
+{
+    numbers.iter().filter(|other| **other == number).count()
+}
+
+/// Adds the numbers of the ends that an entry's request returned.
+fn push_got(numbers: &mut Vec<u64>, entry: &Entry) -> Result<(), AllocError>
+    ensures { OnOk result (numbers.new.items ≡ numbers.old.items ++ opened_by
+        (entry_view entry.now)) }
+{
+    match entry {
+        Entry::Pipe(Ok((reader, writer))) => {
+            numbers.push(*reader)?;
+            numbers.push(*writer)?;
+        }
+        Entry::OpenRead(_, Ok(end)) => numbers.push(*end)?,
+        Entry::Create(_, Ok(end)) => numbers.push(*end)?,
+        Entry::Duplicate(_, Ok(end)) => numbers.push(*end)?,
+        Entry::Parent(_, Ok(end)) => numbers.push(*end)?,
+        _ => {}
+    }
+    Ok(())
+}
+
+/// Adds the numbers of the ends that an entry's request took.
+fn push_spent(numbers: &mut Vec<u64>, entry: &Entry) -> Result<(), AllocError>
+    ensures { OnOk result
+        (numbers.new.items ≡ numbers.old.items ++ spent_by (entry_view entry.now)) }
+{
+    match entry {
+        Entry::Spawn(_, io, _) => push_ends(numbers, io),
+        Entry::Feed(end, _, _) => Ok(numbers.push(*end)?),
+        Entry::Drain(end, _) => Ok(numbers.push(*end)?),
+        Entry::Reader(end) => Ok(numbers.push(*end)?),
+        Entry::Close(end) => Ok(numbers.push(*end)?),
+        _ => Ok(()),
+    }
+}
+
+/// Adds the numbers of the ends of three streams.
+fn push_ends(numbers: &mut Vec<u64>, io: &[Stdio<u64>; 3]) -> Result<(), AllocError>
+    ensures { OnOk result (numbers.new.items ≡ numbers.old.items ++ ends_of io.now) }
+{
+    for stream in io {
+        if let Stdio::End(end) = stream {
+            numbers.push(*end)?;
+        }
+    }
+    Ok(())
+}
+
+/// Returns the fault of an entry, if its request was refused.
+pub fn fault_of(entry: &Entry) -> Option<Fault>
+    ensures { result ≡ fault_of (entry_view entry.now) }
+{
+    match entry {
+        Entry::Environment(Err(fault)) => Some(*fault),
+        Entry::Pipe(Err(fault)) => Some(*fault),
+        Entry::OpenRead(_, Err(fault)) => Some(*fault),
+        Entry::Create(_, Err(fault)) => Some(*fault),
+        Entry::Duplicate(_, Err(fault)) => Some(*fault),
+        Entry::Parent(_, Err(fault)) => Some(*fault),
+        Entry::Canonicalize(_, Err(fault)) => Some(*fault),
+        Entry::Spawn(_, _, Err(fault)) => Some(*fault),
+        Entry::Feed(_, _, Err(fault)) => Some(*fault),
+        Entry::Drain(_, Err(fault)) => Some(*fault),
+        _ => None,
+    }
+}

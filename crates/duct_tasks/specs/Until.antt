@@ -1,0 +1,105 @@
+-- What an expression that runs until a moment returns, and what it leaves.
+use Rattle.std.specs.Prelude.{ℕ, Bool, List, ◌≡◌, ◌⊎◌, IfNone, IfSome, map, Err}
+use Rattle.std.specs.declared.alloc.Global.{Global}
+use Rattle.std.specs.declared.option.Option.{Option}
+use Rattle.std.specs.declared.result.Result.{Result}
+use Rattle.std.specs.declared.sync.Arc.{Arc}
+use Rattle.std.specs.declared.time.Duration.{Duration}
+use Rattle.duct_base.specs.Pool.{PoolView}
+use Rattle.duct_system.specs.Child.{Answer, ChildView, Obeyed}
+use Rattle.duct_system.specs.EntryView.{EntryView}
+use Rattle.duct_system.specs.Started.{children_in}
+use Rattle.duct_system.specs.declared.error.Error.{Error}
+use Rattle.duct_system.specs.declared.error.Error.TheVariants as error
+use Rattle.duct_system.specs.declared.system.Order.{Order}
+use Rattle.duct_system.specs.declared.system.Output.{Output}
+use Rattle.duct_start.specs.Chain.{Allows}
+use Rattle.duct_start.specs.Left.{TakesIn, pool_view}
+use Rattle.duct_start.specs.Plan.{plan_of}
+use Rattle.duct_start.specs.Running.{RunningView}
+use Rattle.duct_start.specs.ShapeOfTree.{shape_of_tree}
+use Rattle.duct_start.specs.Start.{StartSucceeds}
+use Rattle.duct_start.specs.TreeView.{TreeView}
+use Rattle.duct_run.specs.SystemViews.{SystemViews}
+use Rattle.duct_running.specs.Answered.{IsConcludedPoll}
+use Rattle.duct_running.specs.NumbersView.{NumbersView, numbers_of}
+use Rattle.duct_running.specs.Polled.{ReturnsOutcome}
+use Rattle.duct_running.specs.PolledOnce.{PolledOnce}
+use Rattle.duct_running.specs.Stored.{Bytes}
+use Rattle.duct_handle.specs.Started.{AreNumbers}
+use Rattle.duct_handle.specs.Waited.{at_end}
+use Rattle.duct.specs.Launched.{MadeBy, Returns, Runs, StartKind, added_between, draining, drains_error, drains_output}
+use Rattle.duct.specs.TreeView.{tree_view}
+use Rattle.duct.specs.declared.expression.Expression.{Expression}
+use Rattle.duct_tasks.specs.Moment.{HasShownLess, MayRun}
+use Rattle.duct_tasks.specs.Stopped.{AreStopped}
+use Rattle.duct_tasks.specs.declared.late.Late.{Late}
+use Rattle.duct_tasks.specs.declared.late.Until.{Until}
+use Rattle.duct_tasks.specs.declared.late.Until.TheVariants as until
+
+-- it ended in time, and this holds of what it returned; or it was late
+abbrev pub IfDone : {T L : Type 0} → Until T L → (T → Type 0) → Type 0
+IfDone (until.Done value) holds = holds value
+IfDone (until.Late late) holds = Unit {0}
+
+-- it was late, and this holds of what it returned; or it ended in time
+abbrev pub IfLate : {T L : Type 0} → Until T L → (L → Type 0) → Type 0
+IfLate (until.Done value) holds = Unit {0}
+IfLate (until.Late late) holds = holds late
+
+-- it has ended, and how was concluded; or this holds
+abbrev pub UnlessEnded : Option (Result (Arc Output Global) Error) → Type 0 → Type 0
+UnlessEnded ended holds =
+    IfNone ended holds × IfSome ended (λ how. at_end how ≡ Err error.Memory → holds)
+
+-- the pool was given each child that the entries name, in order; each was sent signal 15 and then
+-- killed, with this as the result
+abbrev pub LeavesStopped : {C : Type 0} → (ℕ → Answer → Type 0)
+    → (ℕ → Order → Bool → Obeyed → Type 0) → (C → ChildView) → Result (Unit {0}) Error
+    → List EntryView → PoolView C → PoolView C → Type 0
+LeavesStopped may obey view killed added before after =
+    (given : List ChildView) × (map (λ child. child.number) given ≡ children_in added)
+    × AreStopped obey killed given
+    × TakesIn may given (pool_view view before) (pool_view view after)
+
+module _ {S E C F D : Type 0} (views : SystemViews S E C F D (Unit {0}) Bytes) where
+  -- what was launched had ended when it was polled for the first time
+  abbrev pub EndedAtOnce : {H : Type 0} → MadeBy E H
+  EndedAtOnce kind tree added =
+      (launched : RunningView C F D) × Runs views launched kind tree added
+      × (polled : RunningView C F D) × PolledOnce views launched polled
+      × (ended : Result (Arc Output Global) Error) × ReturnsOutcome views polled (at_end ended)
+
+  -- this output is the outcome of what the children and workers of the start store; and the clock
+  -- showed less than the moment, or they had ended at the first poll
+  abbrev pub ReturnsInTime : {H : Type 0} → (Duration → Type 0) → ℕ → Output → MadeBy E H
+  ReturnsInTime shows nanos output kind tree added =
+      Returns views output kind tree added
+      × (HasShownLess shows nanos ⊎ EndedAtOnce kind tree added)
+
+  -- these are the numbers of the children and workers of the entries; one of them might still run
+  -- when the moment was seen; and how it ended was concluded from what they may return, or it is
+  -- `Error::Memory`
+  pub record IsLate {H : Type 0} (late : Late) (kind : StartKind) (tree : TreeView E H)
+      (added : List EntryView) (numbers : NumbersView) : Type 0 where
+    pub are_numbers : AreNumbers (drains_output kind tree) (drains_error kind tree) added numbers
+    pub may_run : MayRun views (shape_of_tree tree) numbers
+    pub ended : IfSome late.ended (λ ended. IsConcludedPoll views.may_answer views.feed_says
+        views.drain_says (shape_of_tree tree) numbers (at_end ended))
+
+  -- this runs what was late, and each of its children was sent signal 15 and then killed
+  abbrev pub Stops : {H : Type 0} → Late → RunningView C F D → MadeBy E H
+  Stops late running kind tree added =
+      IsLate late kind tree added (numbers_of views running)
+      × AreStopped views.may_obey late.killed (map views.child running.children)
+
+  -- a start that succeeded and was late: its requests are its plan, and the pool was given its
+  -- children, each of which was sent signal 15 and then killed
+  pub record LaunchStopped {H : Type 0} (allows : Allows H) (root : Expression E H) (sys after : S)
+      (before left : PoolView C) (late : Late) : Type 0 where
+    pub asked : StartSucceeds allows views.number_of (tree_view root) (plan_of (tree_view root))
+        (views.journal sys) (views.journal after)
+    pub is_late : (numbers : NumbersView)
+        × IsLate late draining (tree_view root) (added_between views sys after) numbers
+    pub given : LeavesStopped views.may_answer views.may_obey views.child late.killed
+        (added_between views sys after) before left

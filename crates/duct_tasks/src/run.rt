@@ -1,0 +1,148 @@
+//! An expression that runs until a moment.
+ghost use Rattle.std.specs.Prelude.{◌≡◌, ◌+◌, min, IfErr, IfOk, OnOk, Err};
+ghost use Rattle.std.specs.Duration.{as_nanos, max_nanos};
+ghost use Rattle.duct_status.specs.ReplyView.{answered};
+ghost use Rattle.duct_running.specs.Allowed.{StoresAllowed};
+ghost use Rattle.duct_running.specs.Ordered.{IsUnordered};
+ghost use Rattle.duct_running.specs.Polled.{ReturnsOutcome};
+ghost use Rattle.duct_handle.specs.Finished.{RanUntil, RanUntilGiven, StoresError, StoresReply};
+ghost use Rattle.duct.specs.Launched.{Fails, Launched, RunFailed, draining};
+ghost use Rattle.duct_tasks.specs.Moment.{HasReached};
+ghost use Rattle.duct_tasks.specs.Until.{IfDone, IfLate, LaunchStopped, ReturnsInTime, Stops, UnlessEnded};
+
+use crate::late::{Late, Until};
+use crate::stop::stop;
+use crate::watch::watch;
+use duct::Expression;
+use duct_base::error::Error;
+use duct_base::pool::Pool;
+use duct_base::spec::Hook;
+use duct_base::system::{Clock, Output, System};
+use duct_handle::finish::finish;
+use duct_run::views::Viewed;
+use duct_running::running::Running;
+use std::alloc::Global;
+use std::sync::{Arc, Wait};
+use std::time::Duration;
+
+// Returns how what runs ended: the output itself, or the error, after which the children are given
+// to the pool.
+fn closed<S: System>(
+    alloc: Global,
+    rt: &impl Wait,
+    running: Running<S>,
+    ended: Result<Arc<Output>, Error>,
+    pool: &mut Pool<S::Child>,
+) -> Result<Output, Error>
+    requires unordered { IsUnordered ⟦<S as Viewed>⟧.views running }
+    requires ended { IfErr ended (λ e. ReturnsOutcome ⟦<S as Viewed>⟧.views running (Err e)) }
+    requires allowed { ∥ StoresAllowed ⟦<S as Viewed>⟧.views running ∥₁ }
+    ensures output { IfOk result (λ output. RanUntil ⟦<S as Viewed>⟧.views running
+        (λ waited. StoresReply ⟦<S as Viewed>⟧.views waited
+        (answered output.status output.stdout.items output.stderr.items))) }
+    ensures kept { OnOk result (pool.new ≡ pool.old) }
+    ensures failed { IfErr result (λ e. RanUntilGiven ⟦<S as Viewed>⟧.views running
+        (λ waited. StoresError ⟦<S as Viewed>⟧.views waited e) pool.old pool.new) }
+{
+    match ended {
+        Ok(output) => {
+            drop(output); // so that `finish` need not copy it
+            finish(alloc, rt, running, pool)
+        }
+        Err(error) => {
+            running.give_up(pool);
+            Err(error)
+        }
+    }
+}
+
+/// Starts the expression and waits until it has ended, but not beyond this moment, at which it is
+/// stopped, with this much grace. What was stopped is returned with what runs, whose children are
+/// then still to be given to a pool.
+pub(crate) fn launch_until<E: Drop, H: Hook, S: System<End = E>, C: Clock>(
+    expression: &Expression<E, H>,
+    alloc: Global,
+    rt: &impl Wait,
+    clock: &C,
+    moment: Duration,
+    grace: Duration,
+    sys: &mut S,
+    pool: &mut Pool<S::Child>,
+) -> Result<Until<Output, (Late, Running<S>)>, Error>
+    ensures done { IfOk result (λ until. IfDone until (λ output. Launched ⟦<S as Viewed>⟧.views
+        H.allows draining expression.now sys.old sys.new pool.old pool.new
+        (ReturnsInTime ⟦<S as Viewed>⟧.views (C.may_show clock.now) (as_nanos moment) output))) }
+    ensures stopped { IfOk result (λ until. IfLate until (λ stopped. Launched
+        ⟦<S as Viewed>⟧.views H.allows draining expression.now sys.old sys.new pool.old pool.new
+        (Stops ⟦<S as Viewed>⟧.views stopped.0 stopped.1))) }
+    ensures late { IfOk result (λ until. IfLate until
+        (λ stopped. HasReached (C.may_show clock.now) (as_nanos moment))) }
+    ensures grace { IfOk result (λ until. IfLate until (λ stopped. UnlessEnded stopped.0.ended
+        (HasReached (C.may_show clock.now) (min (as_nanos moment + as_nanos grace) max_nanos)))) }
+    ensures failed { IfErr result (RunFailed ⟦<S as Viewed>⟧.views H.allows H.refuses draining
+        expression.now sys.old sys.new pool.old pool.new (Fails ⟦<S as Viewed>⟧.views)) }
+{
+    let mut running = expression.launch(sys, pool)?;
+    match watch(rt, clock, moment, &mut running) {
+        Some(ended) => match closed(alloc, rt, running, ended, pool) {
+            Ok(output) => Ok(Until::Done(output)),
+            Err(error) => Err(error),
+        },
+        None => {
+            let late = stop(rt, clock, moment, grace, &mut running);
+            Ok(Until::Late((late, running)))
+        }
+    }
+}
+
+/// Runs the expression as `Expression::run` does, but not beyond this moment, which counts from the
+/// clock's zero. The clock is read after each poll that doesn't end the wait.
+///
+/// Where the clock shows the moment or a later one while the expression has not ended, it is
+/// stopped: each command that is not known to have ended is sent signal 15, and each that is still
+/// not known to have ended when the clock shows this much more is killed, each once and from left
+/// to right. Nothing waits for what was killed: the children are given to the pool, where a sweep
+/// reaps them. That it was stopped is no error but `Until::Late`, with how it ended and what the
+/// kill returned. A command is sent neither once it is known to have ended; and a command whose
+/// order finds no memory to be noted gets the other one alone, or none. An allocation failure of a
+/// poll doesn't end the grace: it is polled again.
+///
+/// The call blocks until then, and returns late by the pause between two polls, a millisecond, and
+/// by as long as the signal takes: over a `Host` that waits for a shell for each command. What the
+/// commands started themselves gets no order, and is not waited for beyond the grace: where it
+/// holds a capture pipe, the expression is late with all its commands ended.
+///
+/// Fails as `run` does, and leaves the same: where a fault ends the wait in time, its commands may
+/// run on in the pool, without an order.
+///
+/// Example: `run_until(&make, alloc, &rt, &clock, moment, grace, &mut host, &mut pool)?`
+pub fn run_until<E: Drop, H: Hook, S: System<End = E>, C: Clock>(
+    expression: &Expression<E, H>,
+    alloc: Global,
+    rt: &impl Wait,
+    clock: &C,
+    moment: Duration,
+    grace: Duration,
+    sys: &mut S,
+    pool: &mut Pool<S::Child>,
+) -> Result<Until<Output, Late>, Error>
+    ensures done { IfOk result (λ until. IfDone until (λ output. Launched ⟦<S as Viewed>⟧.views
+        H.allows draining expression.now sys.old sys.new pool.old pool.new
+        (ReturnsInTime ⟦<S as Viewed>⟧.views (C.may_show clock.now) (as_nanos moment) output))) }
+    ensures stopped { IfOk result (λ until. IfLate until (LaunchStopped ⟦<S as Viewed>⟧.views
+        H.allows expression.now sys.old sys.new pool.old pool.new)) }
+    ensures late { IfOk result (λ until. IfLate until
+        (λ late. HasReached (C.may_show clock.now) (as_nanos moment))) }
+    ensures grace { IfOk result (λ until. IfLate until (λ late. UnlessEnded late.ended
+        (HasReached (C.may_show clock.now) (min (as_nanos moment + as_nanos grace) max_nanos)))) }
+    ensures failed { IfErr result (RunFailed ⟦<S as Viewed>⟧.views H.allows H.refuses draining
+        expression.now sys.old sys.new pool.old pool.new (Fails ⟦<S as Viewed>⟧.views)) }
+{
+    match launch_until(expression, alloc, rt, clock, moment, grace, sys, pool)? {
+        Until::Done(output) => Ok(Until::Done(output)),
+        Until::Late((late, running)) => {
+            running.give_up(pool);
+            Ok(Until::Late(late))
+        }
+    }
+}

@@ -1,4 +1,0 @@
-pub mod Line
-pub mod PartView
-pub mod ReaderView
-pub mod ShellText

@@ -1,0 +1,93 @@
+//! Open files and pipes of the caller, as streams of a command.
+ghost use Rattle.std.specs.Prelude.{◌≡◌, ◌<◌, [], OnOk};
+ghost use Rattle.duct_system.specs.Trace.{segment};
+ghost use Rattle.duct_start.specs.Follows.{FollowsWhole};
+ghost use Rattle.duct_start.specs.Plan.{plan_of};
+ghost use Rattle.duct_start.specs.Start.{ends_in};
+ghost use Rattle.duct_start.specs.TreeView.{around, stdout_file};
+ghost use Rattle.duct.specs.TreeView.{tree_view};
+
+use duct::{Error, Expression, Handle, Hook, Pool, System, cmd};
+use duct_host::{End, Host};
+use duct_shell::{Failure, Shell};
+use std::fs::{self, File, OpenOptions};
+use std::io::{self, Write};
+use std::sync::Wait;
+use std::test::Fail;
+
+/// Starts a command that holds no end, with its stdout at an end to which this system gave its
+/// number before. Such a start is proved to follow its plan exactly.
+fn start_to<S: System, H: Hook>(
+    command: &Expression<S::End, H>,
+    end: S::End,
+    system: &mut S,
+    pool: &mut Pool<S::Child>,
+) -> Result<Handle<S>, Error>
+    requires no_ends { ends_in (tree_view command.now) ≡ [] }
+    requires earlier { S.End.number_of end < (S.journal_view system.old).next }
+    ensures { OnOk result (let tree = around (stdout_file end) (tree_view command.now) in
+        FollowsWhole H.allows S.End.number_of (plan_of tree)
+        (segment (S.journal_view system.old).entries (S.journal_view system.new).entries)) }
+{
+    let redirected = command.stdout_file(end)?;
+    redirected.start(system, pool)
+}
+
+/// Asks a program a question while it runs, and returns its answer. Its stdin is the other end of
+/// the pipe that the question is written to.
+fn ask<S: System, R: Wait + Clone + Drop, W: Write + Drop>(
+    sh: &mut Shell<S, R>,
+    program: &Expression<S::End>,
+    mut questions: W,
+    question: &str,
+) -> Result<String, Failure> {
+    let handle = sh.reader(program)?;
+    let mut buffer = [0; 512];
+    let answer = match questions.write_all(question.as_bytes()) {
+        Ok(()) => handle.read_as(&mut buffer, &mut handle.seen()),
+        Err(error) => Err(Error::System(error.into())),
+    };
+    drop(questions); // EOF, at which the program ends
+    handle.give_up(&mut sh.pool);
+    let answer = buffer.get(..answer?).unwrap_or(&[]);
+    Ok(String::from_utf8_lossy(sh.alloc, answer)?)
+}
+
+#[test]
+fn a_command_writes_to_an_open_file(rt: HostRuntime) -> Result<(), Fail> {
+    let (mut host, mut pool) = (Host::new(&rt, rt.alloc()), Pool::new(rt.alloc()));
+    let echo: Expression<End> = cmd!(in rt.alloc(); "echo", "foo")?;
+    let end = host.adopt_file(File::create(&rt, "file")?)?;
+    let handle = start_to(&echo, end, &mut host, &mut pool)?;
+    handle.into_output(&rt, &mut pool)?;
+    assert_eq!(rt; fs::read_to_string(&rt, "file")?.as_str(), "foo\n");
+    Ok(())
+}
+
+#[test]
+fn a_file_grows(rt: HostRuntime) -> Result<(), Fail> {
+    let mut sh = Shell::new(&rt);
+    let path = "grown";
+    for word in ["one", "two"] {
+        let command = sh.cmd("echo", &[word])?;
+        let file = OpenOptions::new()
+            .append(true)
+            .create(true)
+            .open(sh.rt, path)?;
+        let end = sh.system.adopt_file(file)?;
+        sh.run(&command.stdout_file(end)?)?;
+    }
+    assert_eq!(rt; fs::read_to_string(&rt, path)?.as_str(), "one\ntwo\n");
+    Ok(())
+}
+
+#[test]
+fn a_program_answers(rt: HostRuntime) -> Result<(), Fail> {
+    let mut sh = Shell::new(&rt);
+    let program = sh.cmd("cat", &[])?;
+    let (input, questions) = io::pipe(sh.rt)?;
+    let input = sh.system.adopt_reader(input)?;
+    let answer = ask(&mut sh, &program.stdin_file(input)?, questions, "why\n")?;
+    assert_eq!(rt; answer.as_str(), "why\n");
+    Ok(())
+}

@@ -1,0 +1,106 @@
+//! Build steps over a guard, of which a clause says what they may do.
+ghost use Rattle.std.specs.Prelude.{◌≡◌, []};
+ghost use Rattle.duct_guard.specs.Allowed.{AreAllowed};
+ghost use Rattle.examples.specs.Tools.{tool_rules};
+
+use duct::{Error, Expression, Pool, System, cmd};
+use duct_guard::{Counts, Guarded, Policy, Request, Variables, read_under};
+use duct_host::Host;
+use std::alloc::Global;
+use std::sync::Wait;
+use std::test::Fail;
+
+/// Allows to start `/bin/echo`, and to open no file.
+#[derive(Drop)]
+struct Tools;
+
+impl Policy for Tools {
+    ghost use Rattle.examples.specs.Tools.{tool_rules};
+
+    ghost rules = { λ _. tool_rules };
+
+    fn allows(&self, request: Request) -> bool {
+        match request {
+            Request::Spawn(spec) => match spec.words() {
+                [program, ..] => program.as_str() == "/bin/echo",
+                [] => false,
+            },
+            Request::Read(_) | Request::Create(_) => false,
+            _ => true,
+        }
+    }
+
+    fn limits(&self) -> Counts {
+        Counts::unlimited()
+    }
+
+    fn at_once(&self) -> usize {
+        usize::MAX
+    }
+}
+
+/// Reads what a step prints. The system is asked to start `/bin/echo` alone.
+fn read_step<S: System>(
+    rt: &impl Wait,
+    alloc: Global,
+    system: S,
+    step: &Expression<S::End>,
+) -> (S, Result<String, Error>)
+    requires { (S.journal_view system).entries ≡ [] }
+    ensures { AreAllowed tool_rules (S.journal_view result.0).entries }
+{
+    let mut guarded = Guarded::new(alloc, system, Tools);
+    let mut pool = Pool::new(alloc);
+    let printed = step.read(rt, &mut guarded, &mut pool);
+    let (system, _tools) = guarded.into_parts();
+    (system, printed)
+}
+
+/// Reads what a step prints that has the given variables and no others, but for those with free
+/// names. The system is asked to start nothing else.
+fn read_kept<S: System + Drop>(
+    rt: &impl Wait,
+    alloc: Global,
+    mut system: S,
+    free: Vec<String>,
+    step: &Expression<S::End>,
+) -> Result<String, Error> {
+    let given = system.environment()?;
+    system.clear_journal();
+    let policy = Variables::new(given, free);
+    read_under(policy, rt, alloc, system, &mut Pool::new(alloc), step).returned
+}
+
+#[test]
+fn a_step_starts_its_tools_alone(rt: HostRuntime) -> Result<(), Fail> {
+    let alloc = rt.alloc();
+    let allowed: Expression<duct_host::End> = cmd!(in alloc; "/bin/echo", "compiled")?;
+    let (_system, printed) = read_step(&rt, alloc, Host::new(&rt, alloc), &allowed);
+    assert_eq!(rt; printed?.as_str(), "compiled");
+    let other: Expression<duct_host::End> = cmd!(in alloc; "touch", "made")?;
+    let (_system, refused) = read_step(&rt, alloc, Host::new(&rt, alloc), &other);
+    let told = format!(in alloc; "{refused:?}")?;
+    assert_eq!(rt;
+        told.as_str(),
+        "Err(System(Fault { kind: PermissionDenied }))"
+    );
+    Ok(())
+}
+
+#[test]
+fn a_step_keeps_its_variables(rt: HostRuntime) -> Result<(), Fail> {
+    let (alloc, mut free) = (rt.alloc(), Vec::new(rt.alloc()));
+    let echo: Expression<duct_host::End> = cmd!(in alloc; "echo", "kept")?;
+    let loads = echo.env("LD_PRELOAD", "x")?;
+    assert!(rt; read_kept(&rt, alloc, Host::new(&rt, alloc), Vec::new(alloc), &loads).is_err());
+    free.push(String::from_str(alloc, "LANG")?)?;
+    let printed = read_kept(
+        &rt,
+        alloc,
+        Host::new(&rt, alloc),
+        free,
+        &echo.env("LANG", "C")?,
+    )?;
+    assert_eq!(rt; printed.as_str(), "kept");
+    Ok(())
+}

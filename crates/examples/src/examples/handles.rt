@@ -1,0 +1,174 @@
+//! Commands in the background: limits, signals, kills, starts that are tried again, and readers.
+use duct::unix::HandleExt;
+use duct::{Clock, Error, ExitStatus, Expression, Fault, Handle, Kind, Output, Pool, System, cmd};
+use duct_host::{Host, HostClock};
+use duct_script::{PollAnswer, Script, ScriptEnd, Sort};
+use duct_shell::{Failure, Shell, Tee, each_line, ended, run};
+use duct_tasks::start_attempts;
+use std::alloc::Global;
+use std::io::Write;
+use std::sync::Wait;
+use std::test::Fail;
+use std::time::Duration;
+
+/// Runs a step for at most this long. Returns its output, or `None` if it took longer. A step that
+/// returns no output is killed, and its children are given to the pool.
+fn build<S: System, C: Clock>(
+    rt: &impl Wait,
+    system: &mut S,
+    pool: &mut Pool<S::Child>,
+    clock: &C,
+    step: &Expression<S::End>,
+    limit: Duration,
+) -> Result<Option<Output>, Error> {
+    let handle = step.start(system, pool)?;
+    let waited = handle.wait_timeout(rt, clock, limit); // `Ok(None)` where the time is over
+    if matches!(waited, Ok(Some(_))) {
+        return Ok(Some(handle.into_output(rt, pool)?));
+    }
+    let killed = handle.kill(rt);
+    handle.give_up(pool); // the compiler wants every handle spent
+    waited?;
+    killed?;
+    Ok(None)
+}
+
+/// Ends a service by a signal, and returns its output.
+fn stopped<S: System>(rt: &impl Wait, alloc: Global, system: &mut S) -> Result<Output, Error> {
+    let mut pool = Pool::new(alloc);
+    let sleep: Expression<S::End> = cmd!(in alloc; "sleep", "20")?;
+    let handle = sleep.unchecked()?.start(system, &mut pool)?;
+    match handle.send_signal(rt, 15) {
+        Ok(()) => handle.into_output(rt, &mut pool), // its status: ExitStatus::Signal(15)
+        Err(error) => {
+            handle.give_up(&mut pool);
+            Err(error)
+        }
+    }
+}
+
+/// Whether it may help to start again: the machine refused a request.
+fn is_busy(error: &Error) -> bool {
+    matches!(error, Error::System(_) | Error::Memory)
+}
+
+/// Starts a command, at most three times, and waits for it.
+fn started_at_last<S: System>(
+    rt: &impl Wait,
+    system: &mut S,
+    pool: &mut Pool<S::Child>,
+    command: &Expression<S::End>,
+) -> Result<Output, Error> {
+    let handle = start_attempts(3, is_busy, command, system, pool)?;
+    handle.into_output(rt, pool)
+}
+
+/// Kills commands that began with `setsid`, with all that they started.
+fn kill_groups<S: System, R: Wait>(
+    sh: &mut Shell<S, R>,
+    handle: &Handle<S>,
+) -> Result<(), Failure> {
+    for pid in handle.pids() {
+        let group = format!(in sh.alloc; "-{pid}")?;
+        run!(sh; "kill", "-s", "KILL", "--", group.as_str())?;
+    }
+    Ok(())
+}
+
+/// Returns the length of the longest line that a command prints. Fails as the command does.
+fn longest_line<S: System>(
+    rt: &impl Wait,
+    alloc: Global,
+    system: &mut S,
+    command: &Expression<S::End>,
+) -> Result<usize, Error> {
+    let mut pool = Pool::new(alloc);
+    let handle = command.reader(rt, system, &mut pool)?;
+    let mut longest = 0_usize;
+    let read = each_line(alloc, &handle, |line| {
+        longest = longest.max(line.len());
+        Ok(())
+    });
+    let output = ended(&handle, read); // its output, or why the command failed
+    handle.give_up(&mut pool);
+    output?;
+    Ok(longest)
+}
+
+/// Returns the bytes that a command prints, and copies them to a log while it runs. A log that
+/// fails is told in the second value, and loses none of the bytes.
+fn copied<S: System, W: Write>(
+    rt: &impl Wait,
+    alloc: Global,
+    system: &mut S,
+    command: &Expression<S::End>,
+    log: &mut W,
+) -> Result<(Vec<u8>, bool), Error> {
+    let mut pool = Pool::new(alloc);
+    let handle = command.reader(rt, system, &mut pool)?;
+    let mut bytes = Vec::new(alloc);
+    let mut tee = Tee::new(&handle, log);
+    let read = tee.read_all(&mut bytes);
+    let whole = tee.stopped().is_none();
+    let output = ended(&handle, read);
+    handle.give_up(&mut pool);
+    output?;
+    Ok((bytes, whole))
+}
+
+#[test]
+fn handles_return_outputs(rt: HostRuntime) -> Result<(), Fail> {
+    let (alloc, clock) = (rt.alloc(), HostClock::new(&rt)?);
+    let (mut host, mut pool) = (Host::new(&rt, alloc), Pool::new(alloc));
+    let quick: Expression<duct_host::End> = cmd!(in alloc; "sleep", "0")?;
+    let slow: Expression<duct_host::End> = cmd!(in alloc; "sleep", "20")?;
+    let (soon, late) = (Duration::from_millis(20), Duration::from_secs(60));
+    let done = build(&rt, &mut host, &mut pool, &clock, &quick, late)?;
+    let cut = build(&rt, &mut host, &mut pool, &clock, &slow, soon)?;
+    let stopped = stopped(&rt, alloc, &mut host)?.status;
+    let told = format!(in alloc; "{done:?}; {cut:?}; {stopped:?}")?;
+    let wanted = "Some(Output { status: Code(0), stdout: [], stderr: [] }); None; Signal(15)";
+    assert_eq!(rt; told.as_str(), wanted);
+    Ok(())
+}
+
+#[test]
+fn a_start_is_tried_again(rt: HostRuntime) -> Result<(), Fail> {
+    let (mut system, mut pool) = (Script::new(rt.alloc())?, Pool::new(rt.alloc()));
+    system.polls(&[PollAnswer::Ended(ExitStatus::Code(0))])?;
+    system.refuse_sort(Sort::Spawn, 1, Fault::new(Kind::Other))?;
+    system.refuse_sort(Sort::Spawn, 2, Fault::new(Kind::Other))?;
+    let command: Expression<ScriptEnd> = cmd!(in rt.alloc(); "server")?;
+    let output = started_at_last(&rt, &mut system, &mut pool, &command)?;
+    assert!(rt; output.status.success());
+    Ok(())
+}
+
+#[test]
+fn a_kill_of_a_group_ends_its_sleepers(rt: HostRuntime) -> Result<(), Fail> {
+    let mut sh = Shell::new(&rt);
+    let left = cmd!(in sh.alloc; "setsid", "sh", "-c", "sleep 1000 & sleep 1000")?;
+    let handle = sh.start(&left.stdout_capture()?.unchecked()?)?;
+    let slept = run!(sh; "sleep", "0.5"); // until `setsid` has made the group
+    let killed = kill_groups(&mut sh, &handle);
+    let output = sh.wait(handle); // it comes once no process holds stdout
+    slept?;
+    killed?;
+    assert_eq!(rt; output?.status, ExitStatus::Signal(9));
+    Ok(())
+}
+
+#[test]
+fn readers_read_while_commands_run(rt: HostRuntime) -> Result<(), Fail> {
+    let mut sh = Shell::new(&rt);
+    let pieces = sh.cmd(
+        "sh",
+        &["-c", "printf 'one\nth'; sleep 0.02; printf 'ree\ntwo'"],
+    )?;
+    let longest = longest_line(&rt, sh.alloc, &mut sh.system, &pieces)?;
+    let mut log: &mut [u8] = &mut [0; 7];
+    let (bytes, whole) = copied(&rt, sh.alloc, &mut sh.system, &pieces, &mut log)?;
+    let told = format!(in sh.alloc; "{longest} {} {whole}", bytes.len())?;
+    assert_eq!(rt; told.as_str(), "5 13 false");
+    Ok(())
+}

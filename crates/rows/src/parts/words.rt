@@ -1,0 +1,72 @@
+//! Texts of a shell: their tokens and expressions, and texts of words and of expressions.
+use crate::parts::Parts;
+use duct::{Error, Stream};
+use duct_program::Usage;
+use duct_script::ScriptEnd;
+use duct_words::{LineError, ShellTextError, SplitError, Token, line, quote, shell_text, split};
+use rows_table::{TableError, Tree, arguments, written};
+use std::alloc::AllocError;
+
+/// Adds what is said of the text, the arguments or the expression of a row.
+pub fn push(text: &mut String, row: &Parts, key: &str) -> Result<(), TableError> {
+    match key {
+        "tokens" => push_tokens(text, row),
+        "meant" => push_meant(text, row),
+        "quoted" => {
+            let words = arguments(row.alloc, row.text("arguments"))?;
+            let quoted = quote(row.alloc, words.as_slice())?;
+            Ok(text.push_str(quoted.as_str())?)
+        }
+        _ => push_shell_text(text, row),
+    }
+}
+
+/// Returns the text of a row: the last line `text`, with newlines and tabs.
+fn told(row: &Parts) -> Result<String, AllocError> {
+    let lines = row.text("text").replace(row.alloc, "␤", "\n")?;
+    lines.as_str().replace(row.alloc, "␉", "\t")
+}
+
+/// Adds the tokens of the text of a row, or why it has none.
+fn push_tokens(text: &mut String, row: &Parts) -> Result<(), TableError> {
+    match split(row.alloc, told(row)?.as_str()) {
+        Ok(tokens) => {
+            for token in &tokens {
+                match token {
+                    Token::Word(word) => write!(text, "{word:?} ")?,
+                    Token::Pipe => text.push_str("| ")?,
+                    Token::Redirect(Stream::In) => text.push_str("< ")?,
+                    Token::Redirect(Stream::Out) => text.push_str("> ")?,
+                    Token::Redirect(Stream::Err) => text.push_str("2> ")?,
+                }
+            }
+        }
+        Err(SplitError::Memory) => return Err(TableError::Error(Error::Memory)),
+        Err(error) => write!(text, "{error}")?,
+    }
+    Ok(())
+}
+
+/// Adds the expression of the text of a row, or why it has none.
+fn push_meant(text: &mut String, row: &Parts) -> Result<(), TableError> {
+    let meant: Result<Tree<ScriptEnd>, LineError> = line(row.alloc, told(row)?.as_str());
+    match meant {
+        Ok(tree) => write!(text, "{tree:?}")?,
+        Err(LineError::Split(SplitError::Memory) | LineError::Usage(Usage::Memory)) => {
+            return Err(TableError::Error(Error::Memory));
+        }
+        Err(error) => write!(text, "{error}")?,
+    }
+    Ok(())
+}
+
+/// Adds a shell's text of the expression of a row, or why it has none.
+fn push_shell_text(text: &mut String, row: &Parts) -> Result<(), TableError> {
+    let tree = written(row.alloc, row.text("expression"))?;
+    match shell_text(row.alloc, &tree) {
+        Ok(told) => text.push_str(told.as_str())?,
+        Err(ShellTextError::Memory) => return Err(TableError::Error(Error::Memory)),
+        Err(error) => write!(text, "{error}")?,
+    }
+    Ok(())
+}

@@ -1,0 +1,71 @@
+//! Tests of workers on their threads: they run beside their caller, and each later poll returns the
+//! same result.
+use duct_base::system::{Job, Numbered, Said, System};
+use duct_script::{Gate, Gated, Script};
+use duct_worker::spawn::{spawn_drain, spawn_feed};
+use duct_worker::worker::Worker;
+use rows_table::{heard, set_system, until};
+use std::alloc::Global;
+use std::rt::Clock;
+use std::sync::Arc;
+use std::test::Fail;
+use std::thread::Threads;
+
+/// Starts a feed of three bytes and a drain of a scripted reader, which wait at a gate.
+fn workers_at_a_gate(
+    rt: &impl Threads,
+    alloc: Global,
+    gate: &Gate,
+) -> Result<(Worker<()>, Worker<Arc<Vec<u8>>>), Fail> {
+    let mut sys = Script::new(alloc)?;
+    let _ = set_system(alloc, &mut sys, "reads", "xy, z")?;
+    let end = sys.open_read("f")?;
+    let (inner, gate_of_drain) = (sys.reader(end), gate.share()?);
+    let drain = spawn_drain(
+        rt,
+        alloc,
+        Gated {
+            gate: gate_of_drain,
+            inner,
+        },
+    )?;
+    let (inner, gate): (Vec<u8>, Gate) = (Vec::new(alloc), gate.share()?);
+    let bytes = Arc::new(alloc, Vec::from_slice(alloc, b"abc")?)?;
+    let feed = spawn_feed(rt, alloc, Gated { gate, inner }, bytes)?;
+    Ok((feed, drain))
+}
+
+/// Whether a feed finishes, and a later poll says so again.
+fn is_fed(rt: &impl Clock, feed: &mut Worker<()>) -> bool {
+    let first = matches!(heard(rt, feed), Ok(Ok(())));
+    first && feed.poll() == Said::Done(()) && feed.number() == 0
+}
+
+/// Whether a drain finishes with all that its reader has.
+fn is_drained(rt: &impl Clock, drain: &mut Worker<Arc<Vec<u8>>>) -> bool {
+    match heard(rt, drain) {
+        Ok(Ok(bytes)) => bytes.as_slice() == b"xyz".as_slice(),
+        Ok(Err(_)) | Err(_) => false,
+    }
+}
+
+/// Whether the caller and each worker go on while a worker is blocked in a write and another in a
+/// read. Then opens their gate, and returns also whether each of them finishes, and a later poll
+/// returns the same.
+fn run_at_a_gate<R: Threads + Clock>(rt: &R, alloc: Global) -> Result<(bool, bool, bool), Fail> {
+    let gate = Gate::new(alloc)?;
+    gate.shut();
+    let (mut feed, mut drain) = workers_at_a_gate(rt, alloc, &gate)?;
+    let stand = until(|| gate.standing() == 2);
+    let run = matches!((feed.poll(), drain.poll()), (Said::Running, Said::Running));
+    gate.open();
+    let fed = is_fed(rt, &mut feed);
+    let drained = is_drained(rt, &mut drain) && is_drained(rt, &mut drain);
+    Ok((stand && run, fed, drained))
+}
+
+#[test]
+fn workers_run_and_tell_the_same(rt: HostRuntime) -> Result<(), Fail> {
+    assert_eq!(rt; run_at_a_gate(&rt, rt.alloc())?, (true, true, true));
+    Ok(())
+}

@@ -1,8 +1,0 @@
-use denote.Exit.{no}
-use denote.Param.Send.{param_send, arg_send, param_sync, shr_sync}
-use Rattle.tests_script.proofs.Shares.{reads_send}
-use Rattle.tests_script.proofs.readers.count_together.Goals as goal
-
-pub join-one-requires-send-F : goal.join-one-requires-send-F
-join-one-requires-send-F g c κs within =
-    param_send 1 _ (arg_send _ no _ (reads_send _ _ _ _ (shr_sync _ _ _ (param_sync 0 _ c.type_bounds.sync-R))))

@@ -1,0 +1,17 @@
+-- What `trace judge` says of words and of the entries of a journal.
+use Rattle.std.specs.Prelude.{ℕ, List, ◌≡◌, Ok}
+use Rattle.duct_system.specs.EntryView.{EntryView}
+use Rattle.duct_system.specs.Journal.{JournalView}
+use Rattle.duct_start.specs.Chain.{Allows, Refuses}
+use Rattle.duct_start.specs.TreeView.{TreeView}
+use Rattle.duct_program.specs.Line.{meant}
+use Rattle.duct_replay.specs.Judged.{Judges}
+use Rattle.duct_replay.specs.declared.judgement.Verdict.{Verdict}
+
+-- the words mean an expression, and this holds of the verdict on these entries by its start
+abbrev pub IsJudged : {E H : Type 0} → Allows H → Refuses H → (E → ℕ) → List (List ℕ)
+    → List EntryView → (Verdict → Type 0) → Type 0
+IsJudged {E} {H} allows refuses number_of words recorded holds =
+    (tree : TreeView E H) × (meant words ≡ Ok tree)
+    × ((verdict : Verdict) × (made : JournalView)
+    × Judges allows refuses number_of tree recorded verdict made × holds verdict)
