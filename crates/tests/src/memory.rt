@@ -94,22 +94,31 @@ fn spawned<R: Real>(rt: &R) -> Result<bool, Error> {
     }
 }
 
-/// Whether all is as it should be, or, where memory isn't ample, a call failed with an allocation
-/// failure.
-fn is_right(made: Result<bool, Error>, is_ample: bool) -> bool {
+/// Whether all is as it should be, or a call failed with an allocation failure.
+fn is_right(made: Result<bool, Error>) -> bool {
     match made {
         Ok(is_right) => is_right,
-        Err(error) => !is_ample && is_memory(&error),
+        Err(error) => is_memory(&error),
     }
 }
 
-/// Checks a create, a kill and a spawn. Without `SPEND` none of them may fail.
+/// Checks a create, a kill and a spawn.
 #[test]
 fn memory_of_requests(rt: HostRuntime) {
-    let is_ample = env::var(&rt, "SPEND").is_err();
     spend(&rt);
     let made = [created(&rt, "created"), killed(&rt), spawned(&rt)];
     for (number, made) in made.into_iter().enumerate() {
-        assert!(rt; is_right(made, is_ample), "{number}");
+        assert!(rt; is_right(made), "{number}");
+    }
+}
+
+/// Checks that none of them fails. So if the allocation that fails is one of theirs, this test
+/// fails.
+#[test]
+fn all_memory_is_there(rt: HostRuntime) {
+    spend(&rt);
+    let made = [created(&rt, "created"), killed(&rt), spawned(&rt)];
+    for (number, made) in made.into_iter().enumerate() {
+        assert!(rt; made == Ok(true), "{number}");
     }
 }

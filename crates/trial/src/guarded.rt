@@ -1,5 +1,5 @@
 //! A line that is read over the real machine under a policy:
-//! `tests PROGRAMS FOLDERS ENDS CHILDREN AT_ONCE CREATES -- WORD..`, where the words are those
+//! `trial PROGRAMS FOLDERS ENDS CHILDREN AT_ONCE CREATES -- WORD..`, where the words are those
 //! of the program `host`. It allows the programs and the folders of these lists, whose items `:`
 //! separates; so many ends that are open, so many children that are ever started, and so many that
 //! run at once; and files to be created where `CREATES` is `yes`. It prints the text or the error,

@@ -1,0 +1,16 @@
+//! Tests of what no row of data can express: threads, gates, and allocation failures of the real
+//! machine.
+#![tactic(auto)]
+
+#[cfg(test)]
+mod machine;
+#[cfg(test)]
+mod memory;
+#[cfg(test)]
+mod readers;
+#[cfg(test)]
+mod starts;
+#[cfg(test)]
+mod threads;
+#[cfg(test)]
+mod workers;
