@@ -6,7 +6,7 @@ use Rattle.std.specs.declared.time.Duration.{Duration}
 use Rattle.duct_system.specs.Journal.{JournalView, IsCleared}
 use Rattle.duct_system.specs.Trace.{segment}
 use Rattle.duct_system.specs.declared.error.Error.{Error}
-use Rattle.duct_shell.specs.RequestText.{Names}
+use Rattle.duct_shell.specs.FailedRequest.{Names}
 use Rattle.duct_shell.specs.declared.failure.Failure.{Failure}
 
 module _ {S : Type 0} (journal : S → JournalView) where

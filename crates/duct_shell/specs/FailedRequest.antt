@@ -1,14 +1,17 @@
--- The request that made a start fail, and what it says of the start's error.
-use Rattle.std.specs.Prelude.{List, ◌≡◌, ◌-◌, length, is_some, slice_get, Some, None, if◌then◌else◌}
+-- The request that made a start fail, what it says of the start's error, and its text.
+use Rattle.std.specs.Prelude.{List, ◌≡◌, ◌-◌, length, is_some, slice_get, Some, None, if◌then◌else◌, IfSome, string_bytes}
 use Rattle.std.specs.declared.option.Option.{Option}
 use Rattle.std.specs.Option.{option_and_then}
+use Rattle.std.specs.declared.alloc.Global.{Global}
+use Rattle.std.specs.declared.string.String.{String}
 use Rattle.duct_system.specs.EntryView.{EntryView}
 use Rattle.duct_system.specs.Trace.{fault_of}
 use Rattle.duct_system.specs.declared.error.Error.{Error}
-use Rattle.duct_system.specs.declared.error.Error.TheVariants.{System, Checked, NotUtf8, Hook, HookEnd, Deadline, Memory}
+use Rattle.duct_system.specs.declared.error.Error.TheVariants.{System, Hook, HookEnd, Memory}
 use Rattle.duct_system.specs.declared.system.Fault.{Fault}
 use Rattle.duct_system.specs.declared.system.Kind.TheVariants.{OutOfMemory}
 use Rattle.duct_start.specs.Causes.{asked_in}
+use Rattle.duct_shell.specs.EntryForm.{entry_text}
 
 -- the last entry that is not a close
 abbrev pub last_asked : List EntryView → Option EntryView
@@ -28,9 +31,18 @@ abbrev pub Explains : Option EntryView → Error → Type 0
 Explains (Some entry) error =
     (fault : Fault) × (fault_of entry ≡ Some fault) × (error ≡ System fault)
 Explains None (System fault) = fault.kind ≡ OutOfMemory
-Explains None (Checked text) = ⊥
-Explains None NotUtf8 = ⊥
 Explains None (Hook fault) = Unit {0}
 Explains None (HookEnd place) = Unit {0}
-Explains None Deadline = ⊥
 Explains None Memory = Unit {0}
+Explains None other = ⊥
+
+-- the text of this entry, where one is promised; or there is neither
+abbrev pub IsTextOf : Option EntryView → Option (String Global) → Type 0
+IsTextOf None None = Unit {0}
+IsTextOf None (Some text) = ⊥
+IsTextOf (Some entry) None = ⊥
+IsTextOf (Some entry) (Some text) = IfSome (entry_text entry) (λ said. string_bytes text ≡ said)
+
+-- if a request is named, it is the failed one of the added entries
+abbrev pub Names : List EntryView → Option (String Global) → Type 0
+Names added request = IfSome request (λ text. IsTextOf (failed_request added) (Some text))

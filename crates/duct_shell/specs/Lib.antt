@@ -2,10 +2,8 @@ pub mod Begun
 pub mod Captures
 pub mod Converted
 pub mod Copies
-pub mod Ended
 pub mod EntryForm
 pub mod FailedRequest
 pub mod Lines
 pub mod Reads
-pub mod RequestText
 pub mod Wraps

@@ -5,7 +5,7 @@ ghost use Rattle.duct_system.specs.EntryView.{entry_view};
 ghost use Rattle.duct_system.specs.Kinds.{kind_of};
 ghost use Rattle.duct_system.specs.declared.error.Error.TheVariants.{Memory, System};
 ghost use Rattle.duct_shell.specs.Converted.{IsFault, io_kind};
-ghost use Rattle.duct_shell.specs.RequestText.{Names};
+ghost use Rattle.duct_shell.specs.FailedRequest.{Names};
 
 use crate::request::request_text;
 use duct::{Entry, Error, Fault, Kind};

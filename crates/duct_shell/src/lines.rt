@@ -2,7 +2,7 @@
 ghost use Rattle.std.specs.Prelude.{◌≡◌, IfSome, OnOk, Ok};
 ghost use Rattle.std.specs.Fn.{CalledAt};
 ghost use Rattle.std.specs.IoError.{error_kind};
-ghost use Rattle.duct_shell.specs.Ended.{EndsFor, error_read};
+ghost use Rattle.duct_shell.specs.Converted.{EndsFor, error_read};
 ghost use Rattle.duct_shell.specs.Lines.{StepsThroughLines};
 
 use duct::{Error, Fault, Kind, Output, ReaderHandle, System};

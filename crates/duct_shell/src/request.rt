@@ -11,8 +11,7 @@ ghost use Rattle.duct_start.specs.Start.{StartRefused};
 ghost use Rattle.duct_start.specs.TreeView.{TreeView};
 ghost use Rattle.duct_tree.specs.Text.{printed};
 ghost use Rattle.duct_shell.specs.EntryForm.{arguments_form, entry_form, fault_form, kind_name, request_form, spawn_form};
-ghost use Rattle.duct_shell.specs.FailedRequest.{Explains, failed_request, last_asked};
-ghost use Rattle.duct_shell.specs.RequestText.{IsTextOf};
+ghost use Rattle.duct_shell.specs.FailedRequest.{Explains, IsTextOf, failed_request, last_asked};
 
 use duct_system::error::Error;
 use duct_system::spec::{CommandSpec, Hook};
@@ -83,18 +82,7 @@ fn fault_of(entry: &Entry) -> Option<Fault>
         | Entry::Spawn(_, _, Err(fault))
         | Entry::Feed(_, _, Err(fault))
         | Entry::Drain(_, Err(fault)) => Some(*fault),
-        Entry::Environment(Ok(_))
-        | Entry::Pipe(Ok(_))
-        | Entry::OpenRead(_, Ok(_))
-        | Entry::Create(_, Ok(_))
-        | Entry::Duplicate(_, Ok(_))
-        | Entry::Parent(_, Ok(_))
-        | Entry::Canonicalize(_, Ok(_))
-        | Entry::Spawn(_, _, Ok(_))
-        | Entry::Feed(_, _, Ok(_))
-        | Entry::Drain(_, Ok(_))
-        | Entry::Reader(_)
-        | Entry::Close(_) => None,
+        _ => None,
     }
 }
 

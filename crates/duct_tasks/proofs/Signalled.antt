@@ -1,20 +1,23 @@
 -- Children that are sent signal 15 and are then polled for some time.
 use Rattle.std.specs.Prelude.{ℕ, pos, Bool, true, false, List, [], ◌∷◌, ◌++◌, All, map, is_some, MatchOption, Ok, Err, Some, None}
-use Rattle.std.specs.List.{AllZip}
 use Rattle.std.specs.Option.{option_map}
 use Rattle.std.specs.declared.option.Option.{Option}
 use Rattle.std.proofs.Common.{◌≡◌, refl, ap, sym, ◌∙◌, subst, inl, inr}
 use Rattle.std.proofs.lemmas.List.Elements.{All-cons, All-head, All-nil, All-tail}
-use Rattle.duct_system.specs.Child.{ChildView, Obeyed, OrdersChild}
+use Rattle.duct_system.specs.Child.{Answer, ChildView, Obeyed, OrdersChild, PollsChild, child_after, ending_after}
 use Rattle.duct_system.specs.Job.{JobView}
 use Rattle.duct_system.specs.declared.system.ExitStatus.{ExitStatus}
 use Rattle.duct_system.specs.declared.system.Kind.TheVariants.{OutOfMemory}
 use Rattle.duct_system.specs.declared.system.Order.{Order}
 use Rattle.duct_system.specs.declared.system.Order.TheVariants.{Signal}
+use Rattle.duct_status.specs.ShapeView.{shape_view}
 use Rattle.duct_start.specs.Running.{RunningView}
-use Rattle.duct_running.specs.NumbersView.{numbers_in}
+use Rattle.duct_run.specs.SystemViews.{SystemViews}
 use Rattle.duct_running.specs.Ordered.{AllOrdered}
-use Rattle.duct_tasks.specs.Stopped.{IsSignalled, Keeps}
+use Rattle.duct_running.specs.Polled.{AllAsked}
+use Rattle.duct_running.specs.Stored.{Bytes}
+use Rattle.duct_tasks.specs.Turns.{RunsAlike}
+use Rattle.duct_tasks.specs.Until.{IsSignalled}
 
 module _ (may : ℕ → Order → Bool → Obeyed → Type 0) where
   sent : (before after : ChildView) (answer : Obeyed) → before.orders ≡ []
@@ -50,22 +53,30 @@ module _ (may : ℕ → Order → Bool → Obeyed → Type 0) where
       (sent_if_due (view before) after answer (view before).ending refl (All-head (λ c. (view c).orders ≡ []) before befores none) all.0)
       (all_sent view befores answers afters (All-tail (λ c. (view c).orders ≡ []) before befores none) all.1)
 
-  kept : (before after : ChildView) → Keeps before after → IsSignalled may before → IsSignalled may after
-  kept before after keeps (inl p) =
-      inl (p.0, subst (λ (n : ℕ). may n (Signal (pos 15)) true p.0) (sym keeps.number_is) p.1, keeps.orders_are ∙ p.2)
-  kept before after keeps (inr (inl p)) =
-      inr (inl (subst (λ (n : ℕ). may n (Signal (pos 15)) false (Err (record { kind = OutOfMemory }))) (sym keeps.number_is) p.0, keeps.orders_are ∙ p.1))
-  kept before after keeps (inr (inr p)) = inr (inr (keeps.still_ended p.0, keeps.orders_are ∙ p.1))
+  -- a poll leaves it so
+  kept : (answer : Answer) (child : ChildView) (ending : Option ExitStatus) → child.ending ≡ ending
+      → IsSignalled may child → IsSignalled may (child_after answer child)
+  kept answer child ending is (inl p) = inl p
+  kept answer child ending is (inr (inl p)) = inr (inl p)
+  kept answer child None is (inr (inr p)) = absurd (let some = p.0 in cc)
+  kept answer child (Some status) is (inr (inr p)) =
+      inr (inr (ap (λ (e : Option ExitStatus). is_some (ending_after e answer)) is, p.1))
 
-  -- polls leave it so
-  pub all_kept : (befores afters : List ChildView) → AllZip Keeps befores afters
+  kept_if_due : (says : ℕ → Answer → Type 0) (before after : ChildView) (ending : Option ExitStatus)
+      → MatchOption ending ((answer : Answer) × PollsChild says before answer after) (λ status. after ≡ before)
+      → IsSignalled may before → IsSignalled may after
+  kept_if_due says before after None polled is =
+      subst (λ (c : ChildView). IsSignalled may c) (sym polled.1.after_is) (kept polled.0 before before.ending refl is)
+  kept_if_due says before after (Some status) same is = subst (λ (c : ChildView). IsSignalled may c) (sym same) is
+
+  pub all_kept : (says : ℕ → Answer → Type 0) (befores afters : List ChildView) → AllAsked says befores afters
       → All (IsSignalled may) befores → All (IsSignalled may) afters
-  all_kept [] [] all signalled = All-nil (IsSignalled may)
-  all_kept [] (after ∷ afters) all signalled = absurd all
-  all_kept (before ∷ befores) [] all signalled = absurd all
-  all_kept (before ∷ befores) (after ∷ afters) all signalled =
-      All-cons (IsSignalled may) after afters (kept before after all.0 (All-head (IsSignalled may) before befores signalled))
-      (all_kept befores afters all.1 (All-tail (IsSignalled may) before befores signalled))
+  all_kept says [] [] all signalled = All-nil (IsSignalled may)
+  all_kept says [] (after ∷ afters) all signalled = absurd all
+  all_kept says (before ∷ befores) [] all signalled = absurd all
+  all_kept says (before ∷ befores) (after ∷ afters) all signalled =
+      All-cons (IsSignalled may) after afters (kept_if_due says before after before.ending all.0 (All-head (IsSignalled may) before befores signalled))
+      (all_kept says befores afters all.1 (All-tail (IsSignalled may) before befores signalled))
 
   -- an order leaves the numbers as they are
   number_ordered : (order : Order) (before after : ChildView) (answer : Obeyed)
@@ -87,15 +98,18 @@ module _ (may : ℕ → Order → Bool → Obeyed → Type 0) where
   numbers_ordered order (before ∷ befores) (answer ∷ answers) (after ∷ afters) all =
       λ i. number_ordered order before after answer before.ending all.0 i ∷ numbers_ordered order befores answers afters all.1 i
 
-  -- so it does with those of all that runs
-  pub numbers_after : {C F D V W : Type 0} (child : C → ChildView) (feed : F → JobView V)
-      (drain : D → JobView W) (order : Order) (before after : RunningView C F D)
-      (answers : List Obeyed) → AllOrdered may order (map child before.children) answers (map child after.children)
-      → after.feeds ≡ before.feeds → after.output ≡ before.output → after.error ≡ before.error
-      → numbers_in child feed drain after ≡ numbers_in child feed drain before
-  numbers_after child feed drain order before after answers all feeds output error = λ i. record {
-    children = numbers_ordered order (map child before.children) answers (map child after.children) all i;
-    feeds = map (λ (f : JobView _). f.number) (map feed (feeds i));
-    output = option_map (λ (d : JobView _). d.number) (option_map drain (output i));
-    error = option_map (λ (d : JobView _). d.number) (option_map drain (error i));
-  }
+-- an order leaves the shape and the numbers of all that runs
+pub seen_after : {S E C F D : Type 0} (views : SystemViews S E C F D (Unit {0}) Bytes) (order : Order)
+    (before after : RunningView C F D) (answers : List Obeyed)
+    → AllOrdered views.may_obey order (map views.child before.children) answers (map views.child after.children)
+    → after.shape ≡ before.shape → after.feeds ≡ before.feeds → after.output ≡ before.output → after.error ≡ before.error
+    → RunsAlike views before after
+seen_after views order before after answers all shape feeds output error = λ i. (
+  shape_view (shape i),
+  record {
+    children = numbers_ordered views.may_obey order (map views.child before.children) answers (map views.child after.children) all i;
+    feeds = map (λ (f : JobView _). f.number) (map views.feed (feeds i));
+    output = option_map (λ (d : JobView _). d.number) (option_map views.drain (output i));
+    error = option_map (λ (d : JobView _). d.number) (option_map views.drain (error i));
+  },
+)

@@ -5,29 +5,22 @@ use Rattle.duct_base.specs.Pool.{PoolView, counted}
 use Rattle.duct_system.specs.declared.error.Error.{Error}
 use Rattle.duct_system.specs.declared.error.Error.TheVariants as error
 use Rattle.duct_start.specs.Chain.{Allows, Refuses}
-use Rattle.duct_start.specs.Running.{RunningView}
 use Rattle.duct_run.specs.SystemViews.{SystemViews}
-use Rattle.duct_running.specs.NumbersView.{NumbersView, numbers_of}
+use Rattle.duct_running.specs.NumbersView.{NumbersView}
 use Rattle.duct_running.specs.Stored.{Bytes}
 use Rattle.duct.specs.declared.expression.Expression.{Expression}
-use Rattle.duct_tasks.specs.Turns.{Advances, Began, End, EndsWith}
+use Rattle.duct_tasks.specs.Turns.{Began, End, EndsWith}
 use Rattle.duct_tasks.specs.declared.keeper.Kept.{Kept}
 use Rattle.duct_tasks.specs.declared.keeper.Why.{Why}
 use Rattle.duct_tasks.specs.declared.keeper.Why.TheVariants.{Stopped, GaveUp, Failed}
 use Rattle.duct_tasks.specs.declared.once.Run.{Run}
 use Rattle.duct_tasks.specs.declared.once.Run.TheVariants as run
-use Rattle.duct_tasks.specs.declared.task.Task.TheVariants as task
 
 -- an output or a checked failure, to which each command of an expression has ended
 abbrev pub IsOver : End → Type 0
 IsOver (Ok output) = Unit {0}
 IsOver (Err (error.Checked text)) = Unit {0}
-IsOver (Err (error.System fault)) = ⊥
-IsOver (Err error.NotUtf8) = ⊥
-IsOver (Err (error.Hook fault)) = ⊥
-IsOver (Err (error.HookEnd place)) = ⊥
-IsOver (Err error.Deadline) = ⊥
-IsOver (Err error.Memory) = ⊥
+IsOver (Err other) = ⊥
 
 -- nothing runs after so many starts: there were none, or the last one has ended like this
 abbrev pub IsIdle : ℕ → Option End → Type 0
@@ -59,40 +52,34 @@ IsWhy most says Stopped starts last = says true
 IsWhy most says GaveUp starts last = (starts ≡ most) × IsIdle starts last
 IsWhy most says Failed starts last = (e : Error) × (last ≡ Some (Err e)) × (IsOver (Err e) → ⊥)
 
-module _ {S E C F D : Type 0} (views : SystemViews S E C F D (Unit {0}) Bytes) where
-  -- what ran ended like this, and at an error, or where it is not known how it ended, its children,
-  -- of which there are this many, were given to the pool
-  abbrev pub GoesTo : RunningView C F D → Option End → ℕ → Type 0
-  GoesTo running (Some end) given = Advances views (task.Running running) (task.Ended end) given
-  GoesTo running None given = given ≡ length (numbers_of views running).children
+module _ {S E C F D : Type 0} (views : SystemViews S E C F D (Unit {0}) Bytes) {H : Type 0}
+    (allows : Allows H) (refuses : Refuses H) (root : Expression E H) where
+  -- one start of the expression, which ended like this; or it is not known how it ended, and the
+  -- pool was given all its children
+  abbrev pub Runs : Option End → ℕ → S → S → Type 0
+  Runs (Some end) given sys after = EndsWith views allows refuses root end given sys after
+  Runs None given sys after =
+      (numbers : NumbersView) × Began views allows refuses root sys after numbers
+      × (given ≡ length numbers.children)
 
-  module _ {H : Type 0} (allows : Allows H) (refuses : Refuses H) (root : Expression E H) where
-    -- one start of the expression, which ended like this; or it is not known how it ended, and the
-    -- pool was given all its children
-    abbrev pub Runs : Option End → ℕ → S → S → Type 0
-    Runs (Some end) given sys after = EndsWith views allows refuses root end given sys after
-    Runs None given sys after =
-        (numbers : NumbersView) × Began views allows refuses root sys after numbers
-        × (given ≡ length numbers.children)
+  -- so many starts, each from where the one before had left the system, and once nothing ran any
+  -- more of that one; the last one, if there is one, ended like this. They gave this many
+  -- children to the pool
+  abbrev pub InSuccession : ℕ → Option End → ℕ → S → S → Type 0
+  InSuccession zero last given sys after = (last ≡ None) × (given ≡ 0) × (after ≡ sys)
+  InSuccession (suc starts) last given sys after =
+      (before : Option End) × (earlier : ℕ) × (between : S)
+      × InSuccession starts before earlier sys between × IsIdle starts before
+      × (own : ℕ) × Runs last own between after × (given ≡ earlier + own)
 
-    -- so many starts, each from where the one before had left the system, and once nothing ran any
-    -- more of that one; the last one, if there is one, ended like this. They gave this many
-    -- children to the pool
-    abbrev pub InSuccession : ℕ → Option End → ℕ → S → S → Type 0
-    InSuccession zero last given sys after = (last ≡ None) × (given ≡ 0) × (after ≡ sys)
-    InSuccession (suc starts) last given sys after =
-        (before : Option End) × (earlier : ℕ) × (between : S)
-        × InSuccession starts before earlier sys between × IsIdle starts before
-        × (own : ℕ) × Runs last own between after × (given ≡ earlier + own)
-
-    -- there were at most so many starts, of which no two ran at once, and none before the stop
-    -- function had said no; the pool was given the children of those that failed or of which it is
-    -- not known how they ended, and no others; and it is said why there is no further start
-    pub record Keeps (most : ℕ) (says : Bool → Type 0) (kept : Kept) (sys after : S)
-        (before left : PoolView C) : Type 0 where
-      pub few : kept.starts ≤ most
-      pub given : ℕ
-      pub runs : InSuccession kept.starts kept.last given sys after
-      pub pool : left.given ≡ counted before.given given
-      pub asked : 0 < kept.starts → says false
-      pub why : IsWhy most says kept.why kept.starts kept.last
+  -- there were at most so many starts, of which no two ran at once, and none before the stop
+  -- function had said no; the pool was given the children of those that failed or of which it is
+  -- not known how they ended, and no others; and it is said why there is no further start
+  pub record Keeps (most : ℕ) (says : Bool → Type 0) (kept : Kept) (sys after : S)
+      (before left : PoolView C) : Type 0 where
+    pub few : kept.starts ≤ most
+    pub given : ℕ
+    pub runs : InSuccession kept.starts kept.last given sys after
+    pub pool : left.given ≡ counted before.given given
+    pub asked : 0 < kept.starts → says false
+    pub why : IsWhy most says kept.why kept.starts kept.last

@@ -1,12 +1,6 @@
-pub mod AtFailure
 pub mod Attempts
-pub mod Calls
-pub mod Counts
 pub mod Expressions
 pub mod Kept
-pub mod Moment
-pub mod RanAll
 pub mod ReadUntil
-pub mod Stopped
 pub mod Turns
 pub mod Until

@@ -22,8 +22,7 @@ use Rattle.duct_reader.specs.Trimmed.{trimmed}
 use Rattle.duct.specs.Launched.{Fails, Launched, RunFailed, added_between, draining}
 use Rattle.duct.specs.TreeView.{tree_view}
 use Rattle.duct.specs.declared.expression.Expression.{Expression}
-use Rattle.duct_tasks.specs.Moment.{HasReached}
-use Rattle.duct_tasks.specs.Until.{LaunchStopped, ReturnsInTime}
+use Rattle.duct_tasks.specs.Until.{HasReached, LaunchStopped, ReturnsInTime}
 use Rattle.duct_tasks.specs.declared.late.LateRead.{LateRead}
 
 -- the last moment of a read, in nanoseconds: a second after the grace, or the greatest moment

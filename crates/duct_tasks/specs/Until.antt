@@ -1,41 +1,89 @@
--- What an expression that runs until a moment returns, and what it leaves.
-use Rattle.std.specs.Prelude.{ℕ, Bool, List, ◌≡◌, ◌⊎◌, IfNone, IfSome, map, Err}
+-- What an expression that runs until a moment of a clock returns, and what it leaves.
+use Rattle.std.specs.Prelude.{ℕ, ◌<◌, ◌≤◌, ◌⊎◌, Err, pos, Bool, true, false, List, [], ◌∷◌, ◌≡◌, All, map, is_some, IfNone, IfSome}
+use Rattle.std.specs.Duration.{as_nanos}
+use Rattle.std.specs.declared.time.Duration.{Duration}
+use Rattle.std.specs.declared.result.Result.{Result}
 use Rattle.std.specs.declared.alloc.Global.{Global}
 use Rattle.std.specs.declared.option.Option.{Option}
-use Rattle.std.specs.declared.result.Result.{Result}
 use Rattle.std.specs.declared.sync.Arc.{Arc}
-use Rattle.std.specs.declared.time.Duration.{Duration}
 use Rattle.duct_base.specs.Pool.{PoolView}
-use Rattle.duct_system.specs.Child.{Answer, ChildView, Obeyed}
+use Rattle.duct_system.specs.declared.error.Error.TheVariants as error
+use Rattle.duct_system.specs.declared.system.Fault.{Fault}
+use Rattle.duct_system.specs.Child.{ChildView, Obeyed, Answer}
+use Rattle.duct_system.specs.declared.error.Error.{Error}
+use Rattle.duct_system.specs.declared.system.Kind.TheVariants.{OutOfMemory}
+use Rattle.duct_system.specs.declared.system.Order.{Order}
+use Rattle.duct_system.specs.declared.system.Order.TheVariants.{Kill, Signal}
 use Rattle.duct_system.specs.EntryView.{EntryView}
 use Rattle.duct_system.specs.Started.{children_in}
-use Rattle.duct_system.specs.declared.error.Error.{Error}
-use Rattle.duct_system.specs.declared.error.Error.TheVariants as error
-use Rattle.duct_system.specs.declared.system.Order.{Order}
 use Rattle.duct_system.specs.declared.system.Output.{Output}
+use Rattle.duct_status.specs.ShapeView.{ShapeView, shape_view}
+use Rattle.duct_start.specs.Running.{RunningView}
 use Rattle.duct_start.specs.Chain.{Allows}
 use Rattle.duct_start.specs.Left.{TakesIn, pool_view}
 use Rattle.duct_start.specs.Plan.{plan_of}
-use Rattle.duct_start.specs.Running.{RunningView}
 use Rattle.duct_start.specs.ShapeOfTree.{shape_of_tree}
 use Rattle.duct_start.specs.Start.{StartSucceeds}
 use Rattle.duct_start.specs.TreeView.{TreeView}
 use Rattle.duct_run.specs.SystemViews.{SystemViews}
+use Rattle.duct_running.specs.Allowed.{OneRuns}
 use Rattle.duct_running.specs.Answered.{IsConcludedPoll}
 use Rattle.duct_running.specs.NumbersView.{NumbersView, numbers_of}
+use Rattle.duct_running.specs.Stored.{Bytes}
+use Rattle.duct_running.specs.Ordered.{IsOrdered}
 use Rattle.duct_running.specs.Polled.{ReturnsOutcome}
 use Rattle.duct_running.specs.PolledOnce.{PolledOnce}
-use Rattle.duct_running.specs.Stored.{Bytes}
 use Rattle.duct_handle.specs.Started.{AreNumbers}
 use Rattle.duct_handle.specs.Waited.{at_end}
 use Rattle.duct.specs.Launched.{MadeBy, Returns, Runs, StartKind, added_between, draining, drains_error, drains_output}
 use Rattle.duct.specs.TreeView.{tree_view}
 use Rattle.duct.specs.declared.expression.Expression.{Expression}
-use Rattle.duct_tasks.specs.Moment.{HasShownLess, MayRun}
-use Rattle.duct_tasks.specs.Stopped.{AreStopped}
 use Rattle.duct_tasks.specs.declared.late.Late.{Late}
 use Rattle.duct_tasks.specs.declared.late.Until.{Until}
 use Rattle.duct_tasks.specs.declared.late.Until.TheVariants as until
+
+-- the clock may show this many nanoseconds or more
+abbrev pub HasReached : (Duration → Type 0) → ℕ → Type 0
+HasReached shows nanos = (moment : Duration) × shows moment × (nanos ≤ as_nanos moment)
+
+-- the clock may show less than this many nanoseconds
+abbrev pub HasShownLess : (Duration → Type 0) → ℕ → Type 0
+HasShownLess shows nanos = (moment : Duration) × shows moment × (as_nanos moment < nanos)
+
+module _ {S E C F D : Type 0} (views : SystemViews S E C F D (Unit {0}) Bytes) where
+  -- one of these numbers may say that it runs, or a fault was concluded from what they may return
+  abbrev pub MayRun : ShapeView → NumbersView → Type 0
+  MayRun shape numbers =
+      OneRuns views numbers
+      ⊎ ((fault : Fault) × IsConcludedPoll views.may_answer views.feed_says views.drain_says
+      shape numbers (Err (error.System fault)))
+
+  -- the same of a running expression
+  abbrev pub HasNotEnded : RunningView C F D → Type 0
+  HasNotEnded running = MayRun (shape_view running.shape) (numbers_of views running)
+
+module _ (may : ℕ → Order → Bool → Obeyed → Type 0) where
+  -- the one order of a child is signal 15, with a result that it may return; or it has no order,
+  -- since there may have been no memory to note the signal, or since it has ended
+  abbrev pub IsSignalled : ChildView → Type 0
+  IsSignalled child =
+      ((answer : Obeyed) × may child.number (Signal (pos 15)) true answer
+      × (child.orders ≡ (Signal (pos 15), answer) ∷ []))
+      ⊎ (may child.number (Signal (pos 15)) false (Err (record { kind = OutOfMemory }))
+      × (child.orders ≡ []))
+      ⊎ ((is_some child.ending ≡ true) × (child.orders ≡ []))
+
+  -- these children were sent signal 15 alone, and then each that had not ended was killed once,
+  -- with this as the result
+  abbrev pub AreStopped : Result (Unit {0}) Error → List ChildView → Type 0
+  AreStopped killed children =
+      (signalled : List ChildView) × All IsSignalled signalled
+      × IsOrdered may Kill signalled killed children
+
+module _ {S E C F D V W : Type 0} (views : SystemViews S E C F D V W) where
+  -- the children of what runs were sent signal 15 alone
+  abbrev pub AreSignalled : RunningView C F D → Type 0
+  AreSignalled running = All (IsSignalled views.may_obey) (map views.child running.children)
 
 -- it ended in time, and this holds of what it returned; or it was late
 abbrev pub IfDone : {T L : Type 0} → Until T L → (T → Type 0) → Type 0

@@ -1,8 +1,6 @@
 //! The tasks that were started, of which only so many run.
-ghost use Rattle.std.specs.Prelude.{ℕ, ◌≡◌, ◌+◌, ◌<◌, ◌≤◌, ◌⊎◌, true, false, [], length, vec_capacity, IfOk};
-ghost use Rattle.duct_tasks.specs.AtFailure.{GoesOn};
-ghost use Rattle.duct_tasks.specs.Counts.{failed_in, running_in};
-ghost use Rattle.duct_tasks.specs.Turns.{AreEnds, Goes};
+ghost use Rattle.std.specs.Prelude.{ℕ, ◌≡◌, ◌+◌, ◌<◌, ◌≤◌, ◌⊎◌, true, false, [], length, sum_by, vec_capacity, IfOk};
+ghost use Rattle.duct_tasks.specs.Turns.{AreEnds, Goes, GoesOn, failed_of, running_of};
 
 use crate::many::{AtFailure, Progress, Tasks};
 use crate::task::{Task, advance, ends_of, has_failed, running, started, terminate};
@@ -22,15 +20,17 @@ pub(crate) struct Crew<'t, E, H, R> {
     running: usize,
     failed: bool,
     stopped: bool,
+    pub ghost some: { 0 < tasks.limit },
     pub ghost few: { running ≤ tasks.limit },
-    pub ghost runs: { running ≡ running_in started.items },
-    pub ghost fails: { failed ≡ failed_in started.items },
+    pub ghost runs: { running ≡ sum_by running_of started.items },
+    pub ghost fails: { failed ≡ true → 0 < sum_by failed_of started.items },
     pub ghost room: { length tasks.all.now ≤ vec_capacity started },
 }
 
 impl<'t, H: Hook, S: System> Crew<'t, S::End, H, Running<S>> {
     /// No task was started yet.
     pub fn new(alloc: Global, tasks: Tasks<'t, S::End, H>) -> Result<Self, AllocError>
+        requires some { 0 < tasks.limit }
         ensures tasks { IfOk result (λ crew. crew.tasks ≡ tasks.entry) }
         ensures none { IfOk result (λ crew. crew.started.items ≡ []) }
     {
@@ -48,8 +48,8 @@ impl<'t, H: Hook, S: System> Crew<'t, S::End, H, Running<S>> {
     fn has_room(&self) -> bool
         ensures few { result ≡ true → self.now.running < self.now.tasks.limit }
         ensures goes_on { result ≡ true → GoesOn self.now.tasks.at_failure self.now.failed }
-        ensures full { result ≡ false → (self.now.running ≡ self.now.tasks.limit)
-            ⊎ (GoesOn self.now.tasks.at_failure self.now.failed → ⊥) }
+        ensures full { result ≡ false → self.now.running ≡ 0
+            → GoesOn self.now.tasks.at_failure self.now.failed → ⊥ }
     {
         match self.tasks.at_failure {
             AtFailure::GoOn => self.running < self.tasks.limit,
@@ -88,8 +88,7 @@ impl<'t, H: Hook, S: System> Crew<'t, S::End, H, Running<S>> {
             self.old.started.items self.new.started.items sys.old sys.new pool.old.given
             pool.new.given }
         ensures over { (length self.new.tasks.all.now ≤ length self.new.started.items)
-            ⊎ (self.new.running ≡ self.new.tasks.limit)
-            ⊎ (GoesOn self.new.tasks.at_failure self.new.failed → ⊥) }
+            ⊎ (self.new.running ≡ 0 → GoesOn self.new.tasks.at_failure self.new.failed → ⊥) }
     {
         for at in self.started.len()..self.tasks.all.len() {
             if !self.has_room() {
@@ -110,13 +109,11 @@ impl<'t, H: Hook, S: System> Crew<'t, S::End, H, Running<S>> {
             pool.old.given pool.new.given }
     {
         let task = &mut self.started[at];
-        if !advance(task, pool) {
-            return false;
-        }
-        let failed = has_failed(task);
-        self.running -= 1;
-        self.failed |= failed;
-        true
+        self.running -= running(task);
+        let has_ended = advance(task, pool);
+        self.running += running(task);
+        self.failed |= has_failed(task);
+        has_ended
     }
 
     /// Polls the tasks that run.
@@ -137,9 +134,6 @@ impl<'t, H: Hook, S: System> Crew<'t, S::End, H, Running<S>> {
     // Sends signal 15 to the tasks that run.
     fn terminate(&mut self)
         ensures tasks { self.new.tasks ≡ self.old.tasks }
-        ensures count { length self.new.started.items ≡ length self.old.started.items }
-        ensures running { self.new.running ≡ self.old.running }
-        ensures failed { self.new.failed ≡ self.old.failed }
         ensures turns { (sys : S) (given : ℕ) → Goes ⟦<S as Viewed>⟧.views H.allows H.refuses
             self.old.tasks.all.now self.old.started.items self.new.started.items sys sys given
             given }
@@ -152,9 +146,6 @@ impl<'t, H: Hook, S: System> Crew<'t, S::End, H, Running<S>> {
     /// Sends signal 15 to the tasks that run, once, where one has failed and that is to stop them.
     pub fn stop_after_failure(&mut self)
         ensures tasks { self.new.tasks ≡ self.old.tasks }
-        ensures count { length self.new.started.items ≡ length self.old.started.items }
-        ensures running { self.new.running ≡ self.old.running }
-        ensures failed { self.new.failed ≡ self.old.failed }
         ensures turns { (sys : S) (given : ℕ) → Goes ⟦<S as Viewed>⟧.views H.allows H.refuses
             self.old.tasks.all.now self.old.started.items self.new.started.items sys sys given
             given }

@@ -68,7 +68,6 @@ pub fn run_attempts<S: System, H: Hook, F: Fn(&Error) -> bool>(
     })
 }
 
-// Starts an expression.
 fn start_once<S: System, H: Hook>(
     expression: &Expression<S::End, H>,
     system: &mut S,
@@ -80,7 +79,6 @@ fn start_once<S: System, H: Hook>(
     expression.start(system, pool)
 }
 
-// Runs an expression.
 fn run_once<S: System, H: Hook>(
     rt: &impl Wait,
     expression: &Expression<S::End, H>,

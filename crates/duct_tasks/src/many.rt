@@ -1,9 +1,7 @@
 //! Tasks of which only so many run at once.
 ghost use Rattle.std.specs.Prelude.{◌≡◌, ◌<◌, ◌≤◌, ◌⊎◌, [], length, IfErr, IfOk};
 ghost use Rattle.duct_system.specs.declared.error.Error.TheVariants.{Memory};
-ghost use Rattle.duct_tasks.specs.AtFailure.{GoesOn};
-ghost use Rattle.duct_tasks.specs.RanAll.{RanAll};
-ghost use Rattle.duct_tasks.specs.Turns.{Goes};
+ghost use Rattle.duct_tasks.specs.Turns.{Goes, GoesOn, RanAll};
 
 use crate::crew::Crew;
 use crate::watch::PAUSE;
@@ -91,8 +89,7 @@ fn work<H: Hook, S: System, T: Fn(usize, Progress<'_>)>(
     sys: &mut S,
     pool: &mut Pool<S::Child>,
 )
-    requires some { 0 < crew.old.tasks.limit }
-    requires told { T.IsAlwaysCallable tell.now }
+    requires { T.IsAlwaysCallable tell.now }
     ensures tasks { crew.new.tasks ≡ crew.old.tasks }
     ensures none { crew.new.running ≡ 0 }
     ensures turns { Goes ⟦<S as Viewed>⟧.views H.allows H.refuses crew.old.tasks.all.now
@@ -104,10 +101,10 @@ fn work<H: Hook, S: System, T: Fn(usize, Progress<'_>)>(
     let parker = Parker::new();
     for _ in rt.forever() {
         crew.start_more(tell, sys, pool);
-        crew.stop_after_failure();
         if !crew.is_busy() {
             return;
         }
+        crew.stop_after_failure();
         parker.park_timeout(rt, Duration::from_micros(PAUSE));
         crew.poll_all(tell, pool);
     }

@@ -1,16 +1,15 @@
 //! One run of an expression, which ends by itself or is stopped.
-ghost use Rattle.std.specs.Prelude.{ℕ, ◌≡◌, true, false, Err, IfNone, IfSome};
+ghost use Rattle.std.specs.Prelude.{ℕ, ◌≡◌, true, false, Err, IfSome};
 ghost use Rattle.duct_base.specs.Pool.{counted};
 ghost use Rattle.duct_system.specs.declared.error.Error.{Error};
 ghost use Rattle.duct_running.specs.Answered.{ReturnsConclusion};
 ghost use Rattle.duct_handle.specs.Waited.{at_end};
-ghost use Rattle.duct_tasks.specs.Kept.{GoesTo, IsOver, Runs, StoppedIf, last_of};
-ghost use Rattle.duct_tasks.specs.Turns.{RunsAlike};
+ghost use Rattle.duct_tasks.specs.Kept.{IsOver, Runs, StoppedIf, last_of};
+ghost use Rattle.duct_tasks.specs.Turns.{RunsAlike, gives};
 
-use crate::late::TERMINATE;
 use crate::many::Progress;
-use crate::task::{ended, is_failure, spend};
-use crate::watch::PAUSE;
+use crate::task::{is_failure, spend};
+use crate::watch::{PAUSE, ask, kill, watch};
 use duct::Expression;
 use duct_base::error::Error;
 use duct_base::pool::Pool;
@@ -52,102 +51,42 @@ pub(crate) fn pause<C: Clock, F: Fn() -> bool>(
     unreachable!()
 }
 
-// Polls what runs until it has ended, and returns how, or `None` once it is to stop before that.
-fn watch<S: System, F: Fn() -> bool>(
-    rt: &impl Wait,
-    stop: &F,
-    running: &mut Running<S>,
-) -> Option<Result<Arc<Output>, Error>>
-    requires { F.IsAlwaysCallable stop.now }
-    ensures alike { RunsAlike ⟦<S as Viewed>⟧.views running.old running.new }
-    ensures ended { IfSome result
-        (λ end. ReturnsConclusion ⟦<S as Viewed>⟧.views running.old (at_end end)) }
-    ensures says { IfNone result (F.post stop.now true) }
-{
-    let parker = Parker::new();
-    for _ in rt.forever() {
-        if let Some(end) = ended(running) {
-            return Some(end);
-        }
-        if stop() {
-            return None;
-        }
-        parker.park_timeout(rt, Duration::from_micros(PAUSE));
-    }
-    unreachable!()
-}
-
-// Sends signal 15 to the commands.
-fn ask<S: System>(running: &mut Running<S>)
-    ensures { RunsAlike ⟦<S as Viewed>⟧.views running.old running.new }
-{
-    let _ = running.signal(TERMINATE);
-}
-
-// Kills the commands.
-fn kill<S: System>(running: &mut Running<S>)
-    ensures { RunsAlike ⟦<S as Viewed>⟧.views running.old running.new }
-{
-    let _ = running.kill();
-}
-
-// Spends what has ended like this.
-fn close<S: System>(
-    running: Running<S>,
-    end: Result<Arc<Output>, Error>,
-    pool: &mut Pool<S::Child>,
-) -> Result<Arc<Output>, Error>
-    requires { ReturnsConclusion ⟦<S as Viewed>⟧.views running (at_end end) }
-    ensures same { result ≡ end }
-    ensures ran { (given : ℕ) × GoesTo ⟦<S as Viewed>⟧.views running (Some result) given
-        × (pool.new.given ≡ counted pool.old.given given) }
-{
-    let failed = is_failure(&end);
-    spend(running, failed, pool);
-    end
-}
-
-// Sends signal 15 to the commands, and kills those that are not known to have ended after this
-// grace. Returns how all of it ended, or `None` where it was killed.
-fn stopped<S: System, C: Clock>(
-    rt: &impl Wait,
-    clock: &C,
-    grace: Duration,
-    mut running: Running<S>,
-    pool: &mut Pool<S::Child>,
-) -> Option<Result<Arc<Output>, Error>>
-    ensures { (given : ℕ) × GoesTo ⟦<S as Viewed>⟧.views running result given
-        × (pool.new.given ≡ counted pool.old.given given) }
-{
-    let last = clock.now().saturating_add(grace);
-    ask(&mut running);
-    match watch(rt, &|| last <= clock.now(), &mut running) {
-        Some(end) => Some(close(running, end, pool)),
-        None => {
-            kill(&mut running);
-            running.give_up(pool);
-            None
-        }
-    }
-}
-
-// Waits until what runs has ended, or ends it where it is to stop before that.
+// Waits until what runs has ended, or ends it where it is to stop before that: sends signal 15 to
+// its commands, and kills those that are not known to have ended after this grace.
 fn attend<S: System, C: Clock, F: Fn() -> bool>(
     rt: &impl Wait,
     clock: &C,
     grace: Duration,
     stop: &F,
-    mut running: Running<S>,
-    pool: &mut Pool<S::Child>,
+    running: &mut Running<S>,
 ) -> Run
     requires { F.IsAlwaysCallable stop.now }
-    ensures ran { (given : ℕ) × GoesTo ⟦<S as Viewed>⟧.views running (last_of result) given
-        × (pool.new.given ≡ counted pool.old.given given) }
+    ensures alike { RunsAlike ⟦<S as Viewed>⟧.views running.old running.new }
+    ensures ended { IfSome (last_of result)
+        (λ end. ReturnsConclusion ⟦<S as Viewed>⟧.views running.new (at_end end)) }
     ensures says { StoppedIf (F.post stop.now true) result }
 {
-    match watch(rt, stop, &mut running) {
-        Some(end) => Run::Ended(close(running, end, pool)),
-        None => Run::Stopped(stopped(rt, clock, grace, running, pool)),
+    if let Some(end) = watch(rt, stop, false, running) {
+        return Run::Ended(end);
+    }
+    let last = clock.now().saturating_add(grace);
+    ask(running);
+    match watch(rt, &|| last <= clock.now(), false, running) {
+        Some(end) => Run::Stopped(Some(end)),
+        None => {
+            let _ = kill(running);
+            Run::Stopped(None)
+        }
+    }
+}
+
+// Returns whether what ran like this failed or was killed.
+fn has_failed(run: &Run) -> bool
+    ensures { result ≡ gives (last_of run.now) }
+{
+    match run {
+        Run::Ended(end) | Run::Stopped(Some(end)) => is_failure(end),
+        Run::Stopped(None) => true,
     }
 }
 
@@ -170,9 +109,11 @@ pub(crate) fn run_once<H: Hook, S: System, C: Clock, F: Fn() -> bool, T: Fn(Prog
     ensures says { StoppedIf (F.post stop.now true) result }
 {
     match expression.launch(sys, pool) {
-        Ok(running) => {
+        Ok(mut running) => {
             tell(Progress::Started);
-            attend(rt, clock, grace, stop, running, pool)
+            let run = attend(rt, clock, grace, stop, &mut running);
+            spend(running, has_failed(&run), pool);
+            run
         }
         Err(error) => Run::Ended(Err(error)),
     }

@@ -1,18 +1,18 @@
 //! An expression that runs until a moment.
-ghost use Rattle.std.specs.Prelude.{◌≡◌, ◌+◌, min, IfErr, IfOk, OnOk, Err};
+ghost use Rattle.std.specs.Prelude.{◌≡◌, ◌+◌, true, false, min, IfErr, IfOk, OnOk};
 ghost use Rattle.std.specs.Duration.{as_nanos, max_nanos};
 ghost use Rattle.duct_status.specs.ReplyView.{answered};
 ghost use Rattle.duct_running.specs.Allowed.{StoresAllowed};
 ghost use Rattle.duct_running.specs.Ordered.{IsUnordered};
 ghost use Rattle.duct_running.specs.Polled.{ReturnsOutcome};
 ghost use Rattle.duct_handle.specs.Finished.{RanUntil, RanUntilGiven, StoresError, StoresReply};
+ghost use Rattle.duct_handle.specs.Waited.{at_end};
 ghost use Rattle.duct.specs.Launched.{Fails, Launched, RunFailed, draining};
-ghost use Rattle.duct_tasks.specs.Moment.{HasReached};
-ghost use Rattle.duct_tasks.specs.Until.{IfDone, IfLate, LaunchStopped, ReturnsInTime, Stops, UnlessEnded};
+ghost use Rattle.duct_tasks.specs.Until.{HasReached, HasShownLess, IfDone, IfLate, LaunchStopped, ReturnsInTime, Stops, UnlessEnded};
 
 use crate::late::{Late, Until};
 use crate::stop::stop;
-use crate::watch::watch;
+use crate::watch::{is_over, watch};
 use duct::Expression;
 use duct_base::error::Error;
 use duct_base::pool::Pool;
@@ -35,7 +35,7 @@ fn closed<S: System>(
     pool: &mut Pool<S::Child>,
 ) -> Result<Output, Error>
     requires unordered { IsUnordered ⟦<S as Viewed>⟧.views running }
-    requires ended { IfErr ended (λ e. ReturnsOutcome ⟦<S as Viewed>⟧.views running (Err e)) }
+    requires ended { ReturnsOutcome ⟦<S as Viewed>⟧.views running (at_end ended) }
     requires allowed { ∥ StoresAllowed ⟦<S as Viewed>⟧.views running ∥₁ }
     ensures output { IfOk result (λ output. RanUntil ⟦<S as Viewed>⟧.views running
         (λ waited. StoresReply ⟦<S as Viewed>⟧.views waited
@@ -83,7 +83,12 @@ pub(crate) fn launch_until<E: Drop, H: Hook, S: System<End = E>, C: Clock>(
         expression.now sys.old sys.new pool.old pool.new (Fails ⟦<S as Viewed>⟧.views)) }
 {
     let mut running = expression.launch(sys, pool)?;
-    match watch(rt, clock, moment, &mut running) {
+    let is_late = ||
+        ensures over { result ≡ true → HasReached (C.may_show clock.entry.now) (as_nanos moment) }
+        ensures early { result ≡ false
+            → HasShownLess (C.may_show clock.entry.now) (as_nanos moment) }
+    { is_over(clock, moment) };
+    match watch(rt, &is_late, false, &mut running) {
         Some(ended) => match closed(alloc, rt, running, ended, pool) {
             Ok(output) => Ok(Until::Done(output)),
             Err(error) => Err(error),

@@ -1,17 +1,10 @@
 //! A task that was started: how it runs on, and how it ends.
-ghost use Rattle.std.specs.Prelude.{ℕ, ◌≡◌, ◌≤◌, true, false, [], length, vec_capacity, Ok, Err, IfSome};
-ghost use Rattle.std.specs.declared.alloc.Global.{Global};
-ghost use Rattle.std.specs.declared.sync.Arc.{Arc};
+ghost use Rattle.std.specs.Prelude.{ℕ, ◌≡◌, ◌≤◌, if◌then◌else◌, true, [], length, sum_by, vec_capacity, Some};
 ghost use Rattle.duct_base.specs.Pool.{counted};
-ghost use Rattle.duct_system.specs.declared.error.Error.{Error};
-ghost use Rattle.duct_system.specs.declared.system.Output.{Output};
-ghost use Rattle.duct_run.specs.Requested.{PoolGets};
-ghost use Rattle.duct_running.specs.Answered.{ReturnsConclusion};
-ghost use Rattle.duct_handle.specs.Waited.{at_end};
-ghost use Rattle.duct_tasks.specs.Counts.{failed_of, running_in, running_of};
-ghost use Rattle.duct_tasks.specs.Turns.{Advances, AreEnds, RunsAlike, Turn};
+ghost use Rattle.duct_running.specs.NumbersView.{numbers_of};
+ghost use Rattle.duct_tasks.specs.Turns.{Advances, AreEnds, Turn, failed_of, gives, running_of};
 
-use crate::late::TERMINATE;
+use crate::watch::{ask, ended};
 use duct::Expression;
 use duct_base::error::Error;
 use duct_base::pool::Pool;
@@ -43,44 +36,17 @@ pub(crate) fn started<E: Drop, H: Hook, S: System<End = E>>(
     }
 }
 
-// Polls what runs, once.
-fn polled<S: System>(running: &mut Running<S>) -> Result<Option<Arc<Output>>, Error>
-    ensures alike { RunsAlike ⟦<S as Viewed>⟧.views running.old running.new }
-    ensures ending { ReturnsConclusion ⟦<S as Viewed>⟧.views running.old result }
-{
-    let polled = running.poll();
-    running.answers_allowed();
-    polled
-}
-
-/// Polls what runs, and returns how it ended, if it did. A fault is no end while a command says
-/// that it runs.
-pub(crate) fn ended<S: System>(running: &mut Running<S>) -> Option<Result<Arc<Output>, Error>>
-    ensures alike { RunsAlike ⟦<S as Viewed>⟧.views running.old running.new }
-    ensures ended { IfSome result
-        (λ ended. ReturnsConclusion ⟦<S as Viewed>⟧.views running.old (at_end ended)) }
-{
-    match polled(running) {
-        Ok(Some(output)) => Some(Ok(output)),
-        Ok(None) => None,
-        Err(Error::System(_)) if running.is_busy() => None,
-        Err(error) => Some(Err(error)),
-    }
-}
-
-/// Whether this is a failure.
+/// Returns whether this is a failure.
 pub(crate) fn is_failure(end: &Result<Arc<Output>, Error>) -> bool
-    ensures ok { result ≡ false → (output : Arc Output Global) × (end.now ≡ Ok output) }
-    ensures err { result ≡ true → (e : Error) × (end.now ≡ Err e) }
+    ensures { result ≡ gives (Some end.now) }
 {
     matches!(end, Err(_))
 }
 
-/// Spends what has ended. Where it has failed, its children are given to the pool.
+/// Spends what has ended or was killed. Where it has failed, its children are given to the pool.
 pub(crate) fn spend<S: System>(running: Running<S>, failed: bool, pool: &mut Pool<S::Child>)
-    ensures kept { failed ≡ false → pool.new ≡ pool.old }
-    ensures given { failed ≡ true
-        → PoolGets ⟦<S as Viewed>⟧.views running.children pool.old pool.new }
+    ensures { pool.new.given ≡ counted pool.old.given
+        (if failed then length (numbers_of ⟦<S as Viewed>⟧.views running).children else 0) }
 {
     if failed {
         running.give_up(pool);
@@ -93,10 +59,8 @@ pub(crate) fn spend<S: System>(running: Running<S>, failed: bool, pool: &mut Poo
 pub(crate) fn advance<S: System>(task: &mut Task<Running<S>>, pool: &mut Pool<S::Child>) -> bool
     ensures goes { (given : ℕ) × Advances ⟦<S as Viewed>⟧.views task.old task.new given
         × (pool.new.given ≡ counted pool.old.given given) }
-    ensures ends { result ≡ true → (running_of task.old ≡ 1) × (running_of task.new ≡ 0)
-        × (failed_of task.old ≡ false) }
-    ensures stays { result ≡ false → (running_of task.new ≡ running_of task.old)
-        × (failed_of task.new ≡ failed_of task.old) }
+    ensures runs { running_of task.new ≤ running_of task.old }
+    ensures fails { failed_of task.old ≤ failed_of task.new }
 {
     let Task::Running(running) = task else {
         return false;
@@ -119,7 +83,7 @@ pub(crate) fn terminate<S: System>(task: &mut Task<Running<S>>)
     ensures fails { failed_of task.new ≡ failed_of task.old }
 {
     if let Task::Running(running) = task {
-        let _ = running.signal(TERMINATE);
+        ask(running);
     }
 }
 
@@ -136,7 +100,7 @@ pub(crate) fn running<R>(task: &Task<R>) -> usize
 
 /// Whether a task has failed.
 pub(crate) fn has_failed<R>(task: &Task<R>) -> bool
-    ensures { result ≡ failed_of task.now }
+    ensures { result ≡ true → failed_of task.now ≡ 1 }
 {
     matches!(task, Task::Ended(Err(_)))
 }
@@ -146,7 +110,7 @@ pub(crate) fn ends_of<R>(
     tasks: Vec<Task<R>>,
     mut room: Vec<Result<Arc<Output>, Error>>,
 ) -> Vec<Result<Arc<Output>, Error>>
-    requires none { running_in tasks.items ≡ 0 }
+    requires none { sum_by running_of tasks.items ≡ 0 }
     requires empty { room.items ≡ [] }
     requires fits { length tasks.items ≤ vec_capacity room }
     ensures { AreEnds tasks.items result.items }

@@ -1,16 +1,20 @@
-//! The wait for what runs until a moment.
-ghost use Rattle.std.specs.Prelude.{◌≡◌, ◌⊎◌, true, false, IfSome, IfNone, Ok, None};
+//! The wait for what runs, and the two orders that end it.
+ghost use Rattle.std.specs.Prelude.{◌≡◌, ◌⊎◌, true, false, pos, IfNone, IfSome, IsSome, Ok, Err, None};
 ghost use Rattle.std.specs.Duration.{as_nanos};
+ghost use Rattle.duct_system.specs.declared.error.Error.TheVariants as error;
+ghost use Rattle.duct_system.specs.declared.system.Order.TheVariants.{Kill};
 ghost use Rattle.duct_running.specs.Allowed.{OneRuns, StoresAllowed};
 ghost use Rattle.duct_running.specs.Answered.{ReturnsConclusion};
 ghost use Rattle.duct_running.specs.NumbersView.{numbers_of};
+ghost use Rattle.duct_running.specs.Ordered.{ChildrenOrdered, IsUnordered};
 ghost use Rattle.duct_running.specs.Polled.{ReturnsOutcome};
 ghost use Rattle.duct_running.specs.PolledOnce.{PolledOnce};
 ghost use Rattle.duct_running.specs.Stays.{StaysSame};
 ghost use Rattle.duct_handle.specs.Waited.{at_end};
-ghost use Rattle.duct_tasks.specs.Moment.{HasReached, HasShownLess, HasNotEnded};
-ghost use Rattle.duct_tasks.specs.Stopped.{ChildrenKeep};
+ghost use Rattle.duct_tasks.specs.Until.{AreSignalled, HasNotEnded, HasReached, HasShownLess};
+ghost use Rattle.duct_tasks.specs.Turns.{RunsAlike};
 
+use crate::late::TERMINATE;
 use duct_base::error::Error;
 use duct_base::system::{Clock, Output, System};
 use duct_run::views::Viewed;
@@ -34,10 +38,11 @@ pub(crate) fn is_over<C: Clock>(clock: &C, moment: Duration) -> bool
 fn polled<S: System>(running: &mut Running<S>) -> Result<Option<Arc<Output>>, Error>
     ensures polls { PolledOnce ⟦<S as Viewed>⟧.views running.old running.new }
     ensures stays { StaysSame ⟦<S as Viewed>⟧.views running.old running.new }
-    ensures kept { ChildrenKeep ⟦<S as Viewed>⟧.views running.old running.new }
+    ensures signalled { AreSignalled ⟦<S as Viewed>⟧.views running.old
+        → AreSignalled ⟦<S as Viewed>⟧.views running.new }
     ensures outcome { ReturnsOutcome ⟦<S as Viewed>⟧.views running.new result }
     ensures allowed { ∥ StoresAllowed ⟦<S as Viewed>⟧.views running.new ∥₁ }
-    ensures ending { ReturnsConclusion ⟦<S as Viewed>⟧.views running.new result }
+    ensures concluded { ReturnsConclusion ⟦<S as Viewed>⟧.views running.new result }
     ensures runs { result ≡ Ok None
         → OneRuns ⟦<S as Viewed>⟧.views (numbers_of ⟦<S as Viewed>⟧.views running.new) }
 {
@@ -46,39 +51,95 @@ fn polled<S: System>(running: &mut Running<S>) -> Result<Option<Arc<Output>>, Er
     polled
 }
 
-/// Waits until what runs has ended and returns how, or `None` where the clock shows this moment or
-/// a later one first. It reads the clock after each poll that doesn't end the wait, and polls at
-/// least once. It gives the children no order.
-pub(crate) fn watch<S: System, C: Clock>(
+/// Polls what runs, once, and returns how it ended, if it did. A fault is no end while a command
+/// says that it runs.
+pub(crate) fn ended<S: System>(running: &mut Running<S>) -> Option<Result<Arc<Output>, Error>>
+    ensures polls { PolledOnce ⟦<S as Viewed>⟧.views running.old running.new }
+    ensures stays { StaysSame ⟦<S as Viewed>⟧.views running.old running.new }
+    ensures signalled { AreSignalled ⟦<S as Viewed>⟧.views running.old
+        → AreSignalled ⟦<S as Viewed>⟧.views running.new }
+    ensures outcome { IfSome result
+        (λ end. ReturnsOutcome ⟦<S as Viewed>⟧.views running.new (at_end end)) }
+    ensures allowed { ∥ StoresAllowed ⟦<S as Viewed>⟧.views running.new ∥₁ }
+    ensures concluded { IfSome result
+        (λ end. ReturnsConclusion ⟦<S as Viewed>⟧.views running.new (at_end end)) }
+    ensures runs { IfNone result (HasNotEnded ⟦<S as Viewed>⟧.views running.new) }
+{
+    match polled(running) {
+        Ok(Some(output)) => Some(Ok(output)),
+        Ok(None) => None,
+        Err(Error::System(_)) if running.is_busy() => None,
+        Err(error) => Some(Err(error)),
+    }
+}
+
+// Whether a poll that returned this ends a wait, which an allocation failure does unless it is
+// patient.
+fn is_final(end: &Option<Result<Arc<Output>, Error>>, is_patient: bool) -> bool
+    ensures some { result ≡ true → IsSome end.now }
+    ensures memory { result ≡ true → is_patient ≡ true
+        → IfSome end.now (λ end. at_end end ≡ Err error.Memory → ⊥) }
+{
+    match end {
+        None => false,
+        Some(Err(Error::Memory)) => !is_patient,
+        Some(Err(Error::System(_) | Error::Checked(_) | Error::NotUtf8)) => true,
+        Some(Err(Error::Hook(_) | Error::HookEnd(_) | Error::Deadline)) => true,
+        Some(Ok(_)) => true,
+    }
+}
+
+/// Polls what runs until it has ended and returns how, or `None` where it is to stop before that,
+/// which is asked after each poll that doesn't end the wait. An allocation failure of a poll
+/// doesn't end a patient one: the next poll tries again. It gives the children no order.
+pub(crate) fn watch<S: System, F: Fn() -> bool>(
     rt: &impl Wait,
-    clock: &C,
-    moment: Duration,
+    stop: &F,
+    is_patient: bool,
     running: &mut Running<S>,
 ) -> Option<Result<Arc<Output>, Error>>
+    requires { F.IsAlwaysCallable stop.now }
     ensures stays { StaysSame ⟦<S as Viewed>⟧.views running.old running.new }
-    ensures kept { ChildrenKeep ⟦<S as Viewed>⟧.views running.old running.new }
+    ensures signalled { AreSignalled ⟦<S as Viewed>⟧.views running.old
+        → AreSignalled ⟦<S as Viewed>⟧.views running.new }
     ensures outcome { IfSome result
-        (λ ended. ReturnsOutcome ⟦<S as Viewed>⟧.views running.new (at_end ended)) }
+        (λ end. ReturnsOutcome ⟦<S as Viewed>⟧.views running.new (at_end end)) }
     ensures allowed { ∥ StoresAllowed ⟦<S as Viewed>⟧.views running.new ∥₁ }
-    ensures ended { IfSome result
-        (λ ended. ReturnsConclusion ⟦<S as Viewed>⟧.views running.old (at_end ended)) }
-    ensures in_time { IfSome result (λ ended. HasShownLess (C.may_show clock.now) (as_nanos moment)
-        ⊎ PolledOnce ⟦<S as Viewed>⟧.views running.old running.new) }
-    ensures late { IfNone result (HasReached (C.may_show clock.now) (as_nanos moment)) }
-    ensures runs { IfNone result (HasNotEnded ⟦<S as Viewed>⟧.views running.old) }
+    ensures concluded { IfSome result
+        (λ end. ReturnsConclusion ⟦<S as Viewed>⟧.views running.new (at_end end)) }
+    ensures in_time { F.post stop.now false
+        ⊎ PolledOnce ⟦<S as Viewed>⟧.views running.old running.new }
+    ensures says { IfNone result (F.post stop.now true) }
+    ensures patient { is_patient ≡ true
+        → IfSome result (λ end. at_end end ≡ Err error.Memory → F.post stop.now true) }
+    ensures runs { IfNone result (HasNotEnded ⟦<S as Viewed>⟧.views running.new) }
 {
     let parker = Parker::new();
     for _ in rt.forever() {
-        match polled(running) {
-            Ok(Some(output)) => return Some(Ok(output)),
-            Ok(None) => (),
-            Err(Error::System(_)) if running.is_busy() => (),
-            Err(error) => return Some(Err(error)),
+        let end = ended(running);
+        if is_final(&end, is_patient) || stop() {
+            return end;
         }
-        if is_over(clock, moment) {
-            return None;
-        }
+        drop(end);
         parker.park_timeout(rt, Duration::from_micros(PAUSE));
     }
     unreachable!()
+}
+
+/// Sends signal 15 to each command that is not known to have ended. One that can't be sent it runs
+/// on as before.
+pub(crate) fn ask<S: System>(running: &mut Running<S>)
+    ensures alike { RunsAlike ⟦<S as Viewed>⟧.views running.old running.new }
+    ensures signalled { IsUnordered ⟦<S as Viewed>⟧.views running.old
+        → AreSignalled ⟦<S as Viewed>⟧.views running.new }
+{
+    let _ = running.signal(TERMINATE);
+}
+
+/// Kills each command that is not known to have ended, once and from left to right.
+pub(crate) fn kill<S: System>(running: &mut Running<S>) -> Result<(), Error>
+    ensures alike { RunsAlike ⟦<S as Viewed>⟧.views running.old running.new }
+    ensures ordered { ChildrenOrdered ⟦<S as Viewed>⟧.views Kill running.old result running.new }
+{
+    running.kill()
 }

@@ -1,7 +1,10 @@
 use Rattle.std.specs.Prelude.{Bool}
-use Rattle.std.proofs.Common.{arith, refl, subst}
+use Rattle.std.proofs.Common.{arith, refl, subst, sym}
 use Rattle.duct_run.proofs.Seeing.{views_of}
-use Rattle.duct_tasks.proofs.Keeping.{ends, gives_up, goes_on, nothing, stops_before}
+use Rattle.duct_tasks.specs.Kept.{IsWhy}
+use Rattle.duct_tasks.specs.declared.keeper.Why.{Why}
+use Rattle.duct_tasks.specs.declared.keeper.Why.TheVariants.{Stopped}
+use Rattle.duct_tasks.proofs.Keeping.{ends, goes_on, nothing, over}
 use Rattle.duct_tasks.proofs.keeper.keep.Goals as goal
 
 pub loop-place-init : goal.loop-place-init
@@ -16,8 +19,8 @@ pub returns-then-pause : goal.returns-then-pause
 returns-then-pause g c =
     let says = g.F.Fn.post c.args.stop tt in
     let l = c.loop-place in
-    stops_before (views_of g.S.System g.S.End.Numbered g.S.Child.Child g.S.Feed.Job g.S.Drain.Job) g.H.Hook.allows g.H.Hook.refuses c.args.expression.now says c.args.sys.now c.args.pool.now l.kept.starts l.kept.last l.sys l.pool l.invariant.so_far c.args.restarts.now.most
-    (omega (arith, l.invariant.starts, l.invariant.most, c.loop-place-test.true)) (subst (λ (b : Bool). says b) c.if-pause.true c.pause.ensures)
+    over (views_of g.S.System g.S.End.Numbered g.S.Child.Child g.S.Feed.Job g.S.Drain.Job) g.H.Hook.allows g.H.Hook.refuses c.args.expression.now says c.args.sys.now c.args.pool.now l.kept.starts l.kept.last l.sys l.pool l.invariant.so_far c.args.restarts.now.most
+    Stopped (omega (arith, l.invariant.starts, l.invariant.most, c.loop-place-test.true)) (subst (λ (b : Bool). says b) c.if-pause.true c.pause.ensures)
 
 pub loop-place-preserved : goal.loop-place-preserved
 loop-place-preserved g c =
@@ -43,6 +46,9 @@ returns-then-not-may_start g c =
 
 pub returns : goal.returns
 returns g c =
+    let says = g.F.Fn.post c.args.stop tt in
     let l = c.loop-place in
-    gives_up (views_of g.S.System g.S.End.Numbered g.S.Child.Child g.S.Feed.Job g.S.Drain.Job) g.H.Hook.allows g.H.Hook.refuses c.args.expression.now (g.F.Fn.post c.args.stop tt) c.args.sys.now c.args.pool.now l.kept.starts l.kept.last l.sys l.pool l.invariant.so_far c.args.restarts.now.most
-    l.kept.why l.invariant.why (omega (arith, l.invariant.starts, l.invariant.most, c.loop-place-test.false, l.auto.place-counter-end))
+    over (views_of g.S.System g.S.End.Numbered g.S.Child.Child g.S.Feed.Job g.S.Drain.Job) g.H.Hook.allows g.H.Hook.refuses c.args.expression.now says c.args.sys.now c.args.pool.now l.kept.starts l.kept.last l.sys l.pool l.invariant.so_far c.args.restarts.now.most
+    l.kept.why (omega (arith, l.invariant.starts, l.invariant.most, c.loop-place-test.false, l.auto.place-counter-end))
+    (subst (λ (w : Why). IsWhy c.args.restarts.now.most says w l.kept.starts l.kept.last) (sym l.invariant.why)
+    (omega (arith, l.invariant.starts, l.invariant.most, c.loop-place-test.false, l.auto.place-counter-end), l.invariant.so_far.idle))

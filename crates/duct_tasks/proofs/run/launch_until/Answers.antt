@@ -1,15 +1,12 @@
-use Rattle.std.specs.Prelude.{is_some}
-use Rattle.std.proofs.Common.{inl, inr}
+use Rattle.std.proofs.Common.{inl, inr, refl}
 use Rattle.std.proofs.lemmas.Result.{err_from_is_err_and}
 use Rattle.duct_run.proofs.Seeing.{views_of}
-use Rattle.duct_running.proofs.Launched.{launched_unordered}
-use Rattle.duct_start.specs.Plan.{plan_of}
 use Rattle.duct_handle.specs.Finished.{StoresError}
 use Rattle.duct.specs.Launched.{Fails, added_between, draining}
 use Rattle.duct.specs.TreeView.{tree_view}
 use Rattle.duct.proofs.Finished.{ran_tree, wait_failed}
-use Rattle.duct_tasks.proofs.Ending.{failed_with, is_late, ran_on}
-use Rattle.duct_tasks.proofs.Staying.{still_unordered}
+use Rattle.duct_tasks.proofs.Ending.{is_late}
+use Rattle.duct_tasks.proofs.Staying.{alike, stays_on}
 use Rattle.duct_tasks.proofs.run.launch_until.Goals as goal
 
 pub returns-in_err-running-clause-failed : goal.returns-in_err-running-clause-failed
@@ -21,33 +18,25 @@ returns-in_err-running-clause-failed g c =
 pub closed-requires-clause-unordered : goal.closed-requires-clause-unordered
 closed-requires-clause-unordered g c =
     let views = views_of g.S.System g.E.Numbered g.S.Child.Child g.S.Feed.Job g.S.Drain.Job in
-    still_unordered g.S.Child.Child.child_view c.in_ok-running.running.children c.watch.new.running.children
-    c.watch.ensures.stays.orders_are (launched_unordered views c.in_ok-running.ensures.launched.makes)
-
-pub closed-requires-clause-ended : goal.closed-requires-clause-ended
-closed-requires-clause-ended g c =
-    let views = views_of g.S.System g.E.Numbered g.S.Child.Child g.S.Feed.Job g.S.Drain.Job in
-    failed_with views c.watch.new.running c.in-Some.ended c.in-Some.ensures.outcome
+    (ran_tree views _ _ _ _ _ c.in_ok-running.ensures.launched.makes c.watch.new.running c.watch.ensures.stays).unordered
 
 pub stop-late-requires-clause-unordered : goal.stop-late-requires-clause-unordered
 stop-late-requires-clause-unordered g c =
     let views = views_of g.S.System g.E.Numbered g.S.Child.Child g.S.Feed.Job g.S.Drain.Job in
-    still_unordered g.S.Child.Child.child_view c.in_ok-running.running.children c.watch.new.running.children
-    c.watch.ensures.stays.orders_are (launched_unordered views c.in_ok-running.ensures.launched.makes)
+    (ran_tree views _ _ _ _ _ c.in_ok-running.ensures.launched.makes c.watch.new.running c.watch.ensures.stays).unordered
 
 pub returns-in-Ok-clause-done : goal.returns-in-Ok-clause-done
 returns-in-Ok-clause-done g c =
     let views = views_of g.S.System g.E.Numbered g.S.Child.Child g.S.Feed.Job g.S.Drain.Job in
     let l = c.in_ok-running.ensures.launched in
-    let tree = tree_view c.args.expression.now in
-    let added = added_between views c.args.sys.now c.launch.new.sys in
-    let ran = ran_on views c.in_ok-running.running c.watch.new.running _ c.watch.ensures.stays c.in-Ok.ensures.output in
+    let ran = c.in-Ok.ensures.output in
+    let stays = stays_on c.watch.ensures.stays ran.1 in
     record {
       asked = l.asked;
       makes = (
-        (ran.0, ran_tree views tree (is_some (plan_of tree).pipes.out) (is_some (plan_of tree).pipes.err) added c.in_ok-running.running l.makes ran.0 ran.1, ran.2),
-        elim c.in-Some.ensures.in_time [
-          | inl less ↦ inl less
+        (ran.0, ran_tree views _ _ _ _ _ l.makes ran.0 stays, ran.2),
+        elim c.watch.ensures.in_time [
+          | inl less ↦ inl (less.1 refl)
           | inr once ↦ inr (c.in_ok-running.running, l.makes, c.watch.new.running, once, c.in-Some.ended, c.in-Some.ensures.outcome)
         ],
       );
@@ -59,22 +48,22 @@ returns-in-Err-clause-failed g c =
     let views = views_of g.S.System g.E.Numbered g.S.Child.Child g.S.Feed.Job g.S.Drain.Job in
     let l = c.in_ok-running.ensures.launched in
     let e = c.in-Err.error in
-    let ran = ran_on views c.in_ok-running.running c.watch.new.running _ c.watch.ensures.stays c.in-Err.ensures.failed in
+    let ran = c.in-Err.ensures.failed in
     inr (wait_failed views g.H.Hook.allows draining c.args.expression.now c.args.sys.now c.launch.new.sys
     c.args.pool.now c.launch.new.pool c.closed.new.pool l.asked c.in_ok-running.running l.makes l.swept
-    (λ waited. StoresError views waited e) (Fails views e) (λ waited stores. stores) ran)
+    (λ waited. StoresError views waited e) (Fails views e) (λ waited stores. stores) (ran.0, stays_on c.watch.ensures.stays ran.1, ran.2))
 
 pub returns-in-None-clause-stopped : goal.returns-in-None-clause-stopped
 returns-in-None-clause-stopped g c =
     let views = views_of g.S.System g.E.Numbered g.S.Child.Child g.S.Feed.Job g.S.Drain.Job in
     let l = c.in_ok-running.ensures.launched in
-    let tree = tree_view c.args.expression.now in
     let added = added_between views c.args.sys.now c.launch.new.sys in
     record {
       asked = l.asked;
       makes = (
-        is_late views draining tree added c.in_ok-running.running l.makes c.watch.new.running c.watch.ensures.stays c.stop-late.result c.stop-late.new.running
-            c.in-None.ensures.runs c.stop-late.ensures.ended c.stop-late.ensures.numbers,
+        is_late views draining (tree_view c.args.expression.now) added c.stop-late.result c.stop-late.new.running
+            c.in_ok-running.running c.watch.new.running l.makes (alike views _ _ c.watch.ensures.stays) c.in-None.ensures.runs
+            c.stop-late.ensures.alike c.stop-late.ensures.ended,
         c.stop-late.ensures.stopped,
       );
       swept = l.swept;

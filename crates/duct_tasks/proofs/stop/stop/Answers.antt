@@ -1,45 +1,35 @@
-use Rattle.std.specs.Prelude.{ℕ, map, pos}
-use Rattle.std.proofs.Common.{◌∙◌, ap, subst}
-use Rattle.duct_status.specs.ShapeView.{shape_view}
-use Rattle.duct_system.specs.declared.system.Order.TheVariants.{Signal}
+use Rattle.std.specs.Prelude.{IfSome, map}
+use Rattle.std.proofs.Common.{◌∙◌, refl, subst, sym}
+use Rattle.duct_status.specs.ShapeView.{ShapeView}
 use Rattle.duct_run.proofs.Seeing.{views_of}
-use Rattle.duct_tasks.specs.Moment.{HasReached}
-use Rattle.duct_tasks.specs.Until.{UnlessEnded}
-use Rattle.duct_tasks.proofs.Ending.{ended_same}
-use Rattle.duct_tasks.proofs.Signalled.{all_kept, all_sent, numbers_after}
+use Rattle.duct_running.specs.Answered.{IsConcludedPoll}
+use Rattle.duct_running.specs.NumbersView.{NumbersView}
+use Rattle.duct_handle.specs.Waited.{at_end}
+use Rattle.duct_tasks.proofs.Ending.{if_none_with, if_some_with}
+use Rattle.duct_tasks.proofs.Staying.{alike}
 use Rattle.duct_tasks.proofs.stop.stop.Goals as goal
 
-pub returns-clause-numbers : goal.returns-clause-numbers
-returns-clause-numbers g c =
-    let child = g.S.Child.Child.child_view in
-    let feed = g.S.Feed.Job.job_view in
-    let drain = g.S.Drain.Job.job_view in
-    let first = c.signal.ensures in
-    c.kill.ensures.numbers
-    ∙ c.watch_on-ended.ensures.stays.numbers_are
-    ∙ numbers_after g.S.Child.Child.may_obey child feed drain (Signal (pos 15)) c.args.running.now c.signal.new.self first.ordered.0 first.ordered.1 first.feeds first.output first.error
+pub returns-clause-alike : goal.returns-clause-alike
+returns-clause-alike g c =
+    let views = views_of g.S.System g.S.End.Numbered g.S.Child.Child g.S.Feed.Job g.S.Drain.Job in
+    c.kill-killed.ensures.alike ∙ alike views _ _ c.watch-ended.ensures.stays ∙ c.ask.ensures.alike
 
 pub returns-clause-ended : goal.returns-clause-ended
 returns-clause-ended g c =
-    let child = g.S.Child.Child.child_view in
-    let feed = g.S.Feed.Job.job_view in
-    let drain = g.S.Drain.Job.job_view in
-    let first = c.signal.ensures in
-    rw (c.kill.ensures.ended) (ended_same (views_of g.S.System g.S.End.Numbered g.S.Child.Child g.S.Feed.Job g.S.Drain.Job) c.args.running.now c.signal.new.self (ap (λ shape. shape_view shape) first.shape)
-    (numbers_after g.S.Child.Child.may_obey child feed drain (Signal (pos 15)) c.args.running.now c.signal.new.self first.ordered.0 first.ordered.1 first.feeds first.output first.error)
-    c.watch_on-ended.result c.watch_on-ended.ensures.ended)
+    let views = views_of g.S.System g.S.End.Numbered g.S.Child.Child g.S.Feed.Job g.S.Drain.Job in
+    subst (λ (s : ShapeView × NumbersView). IfSome c.watch-ended.result (λ end. IsConcludedPoll views.may_answer views.feed_says
+    views.drain_says s.0 s.1 (at_end end))) (sym c.kill-killed.ensures.alike) c.watch-ended.ensures.concluded
 
 pub returns-clause-grace : goal.returns-clause-grace
-returns-clause-grace g c =
-    rw (c.kill.ensures.ended) (subst (λ (nanos : ℕ). UnlessEnded c.watch_on-ended.result (HasReached (g.C.Clock.may_show c.args.clock.now) nanos))
-    c.saturating_add-last.ensures c.watch_on-ended.ensures.late)
+returns-clause-grace g c = (
+  if_none_with c.watch-ended.result c.watch-ended.ensures.says (λ says. rw (← c.saturating_add-last.ensures) (says refl)),
+  if_some_with c.watch-ended.result (c.watch-ended.ensures.patient refl) (λ end late memory. let says = late memory in
+      rw (← c.saturating_add-last.ensures) (says refl)),
+)
 
 pub returns-clause-stopped : goal.returns-clause-stopped
-returns-clause-stopped g c =
-    let child = g.S.Child.Child.child_view in
-    let first = c.signal.ensures.ordered in (
-      map child c.watch_on-ended.new.running.children,
-      all_kept g.S.Child.Child.may_obey (map child c.signal.new.self.children) (map child c.watch_on-ended.new.running.children) c.watch_on-ended.ensures.kept
-          (all_sent g.S.Child.Child.may_obey child c.args.running.now.children first.0 (map child c.signal.new.self.children) c.requires.unordered first.1),
-      c.kill.ensures.ordered,
-    )
+returns-clause-stopped g c = (
+  map g.S.Child.Child.child_view c.watch-ended.new.running.children,
+  c.watch-ended.ensures.signalled (c.ask.ensures.signalled c.requires.unordered),
+  c.kill-killed.ensures.ordered,
+)

@@ -1,5 +1,7 @@
+use Rattle.duct_run.proofs.Seeing.{views_of}
 use Rattle.duct_running.proofs.Kept.{stays}
-use Rattle.duct_tasks.proofs.Staying.{all_asked}
+use Rattle.duct_tasks.proofs.Signalled.{all_kept}
+use Rattle.duct_tasks.proofs.Staying.{concluded}
 use Rattle.duct_tasks.proofs.watch.polled.Goals as goal
 
 pub returns-clause-stays : goal.returns-clause-stays
@@ -10,5 +12,10 @@ returns-clause-stays g c =
     g.S.Drain.Job.may_say g.S.Drain.Job.same g.S.Drain.Job.refusable c.args.running.now c.poll-polled.new.self _ _
     polls.shape polls.children polls.feeds polls.output polls.error
 
-pub returns-clause-kept : goal.returns-clause-kept
-returns-clause-kept g c = all_asked g.S.Child.Child.may_answer _ _ c.poll-polled.ensures.polls.children
+pub returns-clause-signalled : goal.returns-clause-signalled
+returns-clause-signalled g c = all_kept g.S.Child.Child.may_obey g.S.Child.Child.may_answer _ _ c.poll-polled.ensures.polls.children
+
+pub returns-clause-concluded : goal.returns-clause-concluded
+returns-clause-concluded g c =
+    concluded (views_of g.S.System g.S.End.Numbered g.S.Child.Child g.S.Feed.Job g.S.Drain.Job) c.poll-polled.new.self
+    c.poll-polled.result c.poll-polled.ensures.outcome c.answers_allowed.ensures

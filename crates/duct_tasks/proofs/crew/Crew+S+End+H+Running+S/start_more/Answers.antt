@@ -1,5 +1,4 @@
-use Rattle.std.proofs.Common.{arith, ap, ◌∙◌}
-use Rattle.duct_run.proofs.Seeing.{views_of}
+use Rattle.std.proofs.Common.{arith, ap, inr, ◌∙◌}
 use Rattle.duct_tasks.specs.declared.many.Tasks.{Tasks}
 use Rattle.duct_tasks.proofs.Turning.{goes_on}
 use Rattle.duct_tasks.proofs.crew.Crew+S+End+H+Running+S.start_more.Goals as goal
@@ -11,8 +10,8 @@ loop-at-preserved g c =
       tasks = c.start.ensures.tasks ∙ i.tasks;
       count = omega (arith, c.start.ensures.one, i.count);
       all = i.all;
-      turns = goes_on (views_of g.S.System g.S.End.Numbered g.S.Child.Child g.S.Feed.Job g.S.Drain.Job) g.H.Hook.allows g.H.Hook.refuses c.args.self.now.tasks.all.now
-          c.loop-at.self.tasks.all.now c.args.self.now.started.items c.loop-at.self.started.items c.start.new.self.started.items
-          c.args.sys.now c.loop-at.sys c.start.new.sys c.args.pool.now.given c.loop-at.pool.given c.start.new.pool.given
-          (ap (λ (t : Tasks _ _). t.all.now) i.tasks) i.turns c.start.ensures.turn;
+      turns = goes_on (ap (λ (t : Tasks _ _). t.all.now) i.tasks) i.turns c.start.ensures.turn;
     }
+
+pub returns-then-not-has_room-clause-over : goal.returns-then-not-has_room-clause-over
+returns-then-not-has_room-clause-over g c = inr (c.has_room.ensures.full c.if-not-has_room.true)

@@ -7,8 +7,6 @@ abbrev pub invariant-loop-at : goal.invariant-loop-at
 invariant-loop-at g l = record {
   tasks : l.self.tasks ≡ l.initial.self.tasks;
   count : length l.self.started.items ≡ l.at-end;
-  running : l.self.running ≡ l.initial.self.running;
-  failed : l.self.failed ≡ l.initial.self.failed;
   turns : (sys : g.row.S.Denot) (given : ℕ) → Goes (views_of g.S.System g.S.End.Numbered g.S.Child.Child g.S.Feed.Job g.S.Drain.Job) g.H.Hook.allows g.H.Hook.refuses
       l.initial.self.tasks.all.now l.initial.self.started.items l.self.started.items sys sys given given;
 }
