@@ -10,15 +10,15 @@ pub begun_first : (earlier : Held) (added : ℕ) (entries : List EntryView) → 
 begun_first earlier added entries none is =
     record { long = rw none (omega arith); nothing = λ _. is }
 
--- one more entry was added, after room was reserved or released
-pub begun_still : (earlier : Held) (added between now : ℕ) (entries same more : List EntryView) (entry : EntryView)
-    → IsBegun earlier added entries → same ≡ entries → between ≡ added → more ≡ same ++ entry ∷ [] → now ≡ between + 1
+-- one more entry was added
+pub begun_still : (earlier : Held) (added now : ℕ) (entries more : List EntryView) (entry : EntryView)
+    → IsBegun earlier added entries → more ≡ entries ++ entry ∷ [] → now ≡ added + 1
     → IsBegun earlier now more
-begun_still earlier added between now entries same more entry begun are kept is count =
-    let one : length more ≡ length entries + 1 = ap length is ∙ length-append same (entry ∷ []) ∙ ap (λ (xs : List EntryView). length xs + 1) are in
+begun_still earlier added now entries more entry begun is count =
+    let one = ap length is ∙ length-append entries (entry ∷ []) in
     record {
-      long = omega (arith, one, count, kept, begun.long);
-      nothing = λ all. begun.nothing (omega (arith, one, count, kept, all));
+      long = omega (arith, one, count, begun.long);
+      nothing = λ all. begun.nothing (omega (arith, one, count, all));
     }
 
 -- the journal was cleared

@@ -1,25 +1,28 @@
 -- What a request of a guard asks the system below.
-use Rattle.std.specs.Prelude.{[], ◌∷◌, ◌++◌}
-use Rattle.std.proofs.Common.{◌≡◌, refl, sym, subst, arith}
+use Rattle.std.specs.Prelude.{ℕ, [], ◌∷◌}
+use Rattle.std.proofs.Common.{◌≡◌, refl, sym, subst, ◌∙◌, arith}
 use Rattle.std.proofs.lemmas.List.{append-nil}
 use Rattle.duct_system.specs.EntryView.{EntryView}
 use Rattle.duct_system.specs.Journal.{JournalView}
 use Rattle.duct_guard.specs.Forwarded.{IsForwarded}
 use Rattle.duct_guard.specs.GuardView.{GuardView, OnlyForwards}
 use Rattle.duct_guard.specs.Rules.{Rules}
+use Rattle.duct_guard.proofs.Counting.{Notes}
 
 module _ {S P : Type 0} (journal_view : S → JournalView) (rules : P → Rules) where
   -- a request whose entry was added
-  pub one_asked : (was old new : GuardView S P) (entry : EntryView) → was ≡ old
+  pub one_asked : {added room : ℕ} {more : JournalView} (was old new : GuardView S P)
+      (entry : EntryView) → was ≡ old
       → IsForwarded (rules was.policy) was.held entry (journal_view was.inner) (journal_view new.inner)
-      → new.journal.entries ≡ was.journal.entries ++ entry ∷ [] → new.policy ≡ was.policy
+      → Notes entry was.journal.entries added room more → new.journal.entries ≡ more.entries
+      → new.policy ≡ was.policy
       → new.earlier ≡ was.earlier → OnlyForwards journal_view rules old new
-  one_asked was old new entry same sent is policy earlier =
+  one_asked was old new entry same sent noted is policy earlier =
       subst (λ v. OnlyForwards journal_view rules v new) same (record {
         added = entry ∷ [];
         asked = sent.asked;
         forwards = (sent.asked, [], sym (append-nil sent.asked), sent.forwards, refl);
-        added_are = is;
+        added_are = is ∙ noted.entries_are;
         asked_are = sent.adds.entries_are;
         count_is = sent.adds.added_is;
         policy_is = policy;

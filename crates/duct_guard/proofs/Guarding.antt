@@ -1,8 +1,8 @@
 -- What the journal below has when a guard notes one more entry, and what follows from it.
-use Rattle.std.specs.Prelude.{ℕ, List, [], ◌∷◌, ◌++◌, Bool, true, false, ◌&&◌, ◌||◌, length, map, take, nat_le, Ok, Err, IfOk, IfErr, OnOk, OnErr, Some}
+use Rattle.std.specs.Prelude.{ℕ, List, [], ◌∷◌, ◌++◌, Bool, true, false, ◌&&◌, ◌||◌, length, map, take, nat_le, Ok, Err, IfOk, IfErr, Some}
 use Rattle.std.specs.declared.option.Option.{Option}
 use Rattle.std.specs.declared.result.Result.{Result}
-use Rattle.std.proofs.Common.{◌≡◌, refl, ap, sym, subst, ◌∙◌, arith, append_assoc, ◌+◌, ◌-◌, ◌≤◌, ◌⊎◌, inl, inr}
+use Rattle.std.proofs.Common.{◌≡◌, refl, ap, sym, subst, ◌∙◌, arith, append_assoc, ◌+◌, ◌≤◌, ◌⊎◌, inl, inr}
 use Rattle.std.proofs.lemmas.Bool.{and_parts}
 use Rattle.std.proofs.lemmas.List.{append-nil, length-take}
 use Rattle.std.proofs.lemmas.List.Folds.{list_all-append}
@@ -10,7 +10,7 @@ use Rattle.std.proofs.Math.Nat.{le_refl}
 use mathlib.Core.Bool.{Bool-set}
 use mathlib.Core.Logic.{∥∥₁_map, ∥∥₁_elim}
 use Rattle.duct_system.specs.EntryView.{EntryView, Environment, Pipe, Canonicalize, Spawn, Close}
-use Rattle.duct_system.specs.Journal.{JournalView, Adds, AddsNothing, GetsEnd, GetsEnds, IsNew, IsRefused}
+use Rattle.duct_system.specs.Journal.{JournalView, Adds, AddsNothing, GetsEnds, IsNew, IsRefused}
 use Rattle.duct_system.specs.Ledger.{opened_by, spent_by}
 use Rattle.duct_system.specs.SpecView.{SpecView, Vars}
 use Rattle.duct_system.specs.Streams.{ends_of}
@@ -18,10 +18,9 @@ use Rattle.duct_system.specs.Trace.{fault_of}
 use Rattle.duct_system.specs.declared.system.Fault.{Fault}
 use Rattle.duct_system.specs.declared.system.Kind.{Kind}
 use Rattle.duct_system.specs.declared.system.Stdio.{Stdio}
-use Rattle.duct_guard.specs.Added.{AddsAll}
 use Rattle.duct_guard.specs.Allowed.{is_allowed, is_denial, AreAllowed, AreDenied}
 use Rattle.duct_system.specs.EntryView.{answer_of}
-use Rattle.duct_guard.specs.Closed.{ClosesFirst}
+use Rattle.duct_guard.specs.Closed.{AddsAll, ClosesFirst}
 use Rattle.duct_guard.specs.Forwarded.{allows_spawn, may_ask, refusal, Forwards, Passed, Refused, Crowded, LostVars, LostPath, ForwardsAll, IsForwarded}
 use Rattle.duct_guard.specs.Held.{held_after, is_within, with_entry}
 use Rattle.duct_guard.specs.Requests as request
@@ -134,56 +133,16 @@ module _ (rules : Rules) (held : Held) where
     adds = rw (opened, one) (one_added (Close n) 0 1 old new adds);
   }
 
-  -- the result of a request for an end, which takes none
-  pub end_answered : {E : Type 0} (number : E → ℕ) (entry : Result ℕ Fault → EntryView)
-      (old new : JournalView) (made : Result E Fault)
-      → ((answer : Result ℕ Fault) → may_ask rules held (entry answer) ≡ true)
-      → ((n : ℕ) → opened_by (entry (Ok n)) ≡ n ∷ [])
-      → ((fault : Fault) → opened_by (entry (Err fault)) ≡ [])
-      → ((answer : Result ℕ Fault) → spent_by (entry answer) ≡ [])
-      → ((fault : Fault) → fault_of (entry (Err fault)) ≡ Some fault)
-      → IfOk made (λ end. GetsEnd (entry (Ok (number end))) (number end) old new)
-      → IfErr made (λ fault. IsRefused (entry (Err fault)) 0 fault old new)
-      → IsForwarded rules held (entry (answer_of number made)) old new
-  end_answered number entry old new (Ok end) allowed one none closed fault ok err =
-      passed (entry (Ok (number end))) old new (allowed (Ok (number end))) (rw (one (number end), closed (Ok (number end))) ok.0)
-  end_answered number entry old new (Err f) allowed one none closed fault ok err =
-      failed (entry (Err f)) f old new (allowed (Err f)) (fault f) (none f) (rw (closed (Err f)) err)
-
   -- the result of a request for a pipe
-  pub pipe_passed : {E : Type 0} (number : E → ℕ) (old new : JournalView)
+  pub pipe_answered : {E : Type 0} (number : E → ℕ) (old new : JournalView)
       (made : Result (E × E) Fault) → nat_le (held.ends + 2) rules.limits.ends ≡ true
       → IfOk made (λ ends. GetsEnds (Pipe (Ok (number ends.0, number ends.1))) (number ends.0)
       (number ends.1) old new)
-      → IfOk made (λ ends. IsForwarded rules held (Pipe (Ok (number ends.0, number ends.1))) old new
-      × GetsEnds (Pipe (Ok (number ends.0, number ends.1))) (number ends.0) (number ends.1) old
-      new)
-  pipe_passed number old new (Ok ends) allowed ok = (passed _ old new allowed ok.0, ok)
-  pipe_passed number old new (Err fault) allowed ok = tt
-
-  pub pipe_failed : {T : Type 0} (old new : JournalView) (made : Result T Fault)
-      → nat_le (held.ends + 2) rules.limits.ends ≡ true
       → IfErr made (λ fault. IsRefused (Pipe (Err fault)) 0 fault old new)
-      → IfErr made (λ fault. IsForwarded rules held (Pipe (Err fault)) old new)
-  pipe_failed old new (Ok made) allowed err = tt
-  pipe_failed old new (Err fault) allowed err =
+      → IsForwarded rules held (Pipe (answer_of (λ ends. (number ends.0, number ends.1)) made)) old new
+  pipe_answered number old new (Ok ends) allowed ok err = passed _ old new allowed ok.0
+  pipe_answered number old new (Err fault) allowed ok err =
       failed (Pipe (Err fault)) fault old new allowed refl refl err
-
-  -- the room after a request for an end: the guard's own stays below that of the inner system
-  pub end_room : {E : Type 0} (number : E → ℕ) (entry : Result ℕ Fault → EntryView)
-      (old new : JournalView) (made : Result E Fault) (own ready left : ℕ)
-      → ((n : ℕ) → opened_by (entry (Ok n)) ≡ n ∷ [])
-      → ((fault : Fault) → opened_by (entry (Err fault)) ≡ [])
-      → ((answer : Result ℕ Fault) → spent_by (entry answer) ≡ [])
-      → own ≤ old.room → ready ≡ own + 1 + 1
-      → OnOk made (left ≡ ready - 1) → OnErr made (left ≡ ready - 2)
-      → IsForwarded rules held (entry (answer_of number made)) old new → left ≤ new.room
-  end_room number entry old new (Ok end) own ready left one none closed within is ok err sent =
-      let room : old.room + 1 ≤ new.room + 0 = rw (one (number end), closed (Ok (number end))) at sent.adds.room_is in
-      omega arith
-  end_room number entry old new (Err f) own ready left one none closed within is ok err sent =
-      let room : old.room + 0 ≤ new.room + 0 = rw (none f, closed (Err f)) at sent.adds.room_is in
-      omega arith
 
   -- the result of a request for a worker, which takes an end
   pub worker_answered : {J : Type 0} (entry : Result (Unit {0}) Fault → EntryView) (n : ℕ)

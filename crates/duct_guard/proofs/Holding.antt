@@ -1,9 +1,9 @@
 -- What a guard holds after an entry, part by part.
-use Rattle.std.specs.Prelude.{ℕ, Bool, List, [], ◌∷◌, true, false, nat_le, if◌then◌else◌}
+use Rattle.std.specs.Prelude.{ℕ, Bool, List, [], ◌∷◌, true, false, length, nat_le, if◌then◌else◌}
 use Rattle.std.proofs.Common.{◌≡◌, refl, ap, sym, ◌∙◌, arith, ◌+◌, ◌-◌, ◌≤◌}
 use Rattle.duct_system.specs.EntryView.{EntryView}
 use Rattle.duct_system.specs.Ledger.{opened_by, spent_by}
-use Rattle.duct_guard.specs.Held.{started_by, with_children, with_ends, with_entry, without_end, without_ends}
+use Rattle.duct_guard.specs.Held.{child_of, started_by, with_children, with_ends, with_entry, without_end, without_ends}
 use Rattle.duct_guard.specs.declared.counts.Held.{Held}
 
 opened_children : (held : Held) (numbers : List ℕ) → (with_ends held numbers).children ≡ held.children
@@ -39,10 +39,9 @@ none_started held =
     let same : held.children + 0 ≡ held.children = omega arith in
     λ i. record { ends = held.ends; children = same i; first = held.first }
 
--- what is held after an entry that starts no child, by the ends that its request returned and took
-pub entry_is : (held : Held) (entry : EntryView) (opened spent : List ℕ) → opened_by entry ≡ opened
-    → spent_by entry ≡ spent → started_by entry ≡ 0
-    → without_ends (with_ends held opened) spent ≡ with_entry held entry
-entry_is held entry opened spent opens spends none =
-    sym (none_started (without_ends (with_ends held opened) spent))
-    ∙ (λ i. with_children (without_ends (with_ends held (sym opens i)) (sym spends i)) (sym none i))
+-- what is held after an entry that starts no child
+pub entry_is : (held : Held) (entry : EntryView) → child_of entry ≡ []
+    → without_ends (with_ends held (opened_by entry)) (spent_by entry) ≡ with_entry held entry
+entry_is held entry none =
+    let now = without_ends (with_ends held (opened_by entry)) (spent_by entry) in
+    sym (none_started now) ∙ ap (λ children. with_children now (length children)) (sym none)

@@ -3,6 +3,7 @@ pub mod Below
 pub mod Closing
 pub mod Counting
 pub mod Crews
+pub mod Ends
 pub mod Guarding
 pub mod Holding
 pub mod Prefixes

@@ -3,7 +3,7 @@
 use Rattle.std.specs.Prelude.{Bool, true, false, ◌≡◌, ◌||◌, List, Some, None}
 use Rattle.std.specs.List.{list_all}
 use Rattle.std.specs.declared.option.Option.{Option}
-use Rattle.duct_system.specs.EntryView.{EntryView, Environment, Pipe, OpenRead, Create, Duplicate, Parent, Canonicalize, Spawn, Feed, Drain, Reader, Close}
+use Rattle.duct_system.specs.EntryView.{EntryView, OpenRead, Create, Duplicate, Parent, Canonicalize, Spawn}
 use Rattle.duct_system.specs.Trace.{fault_of}
 use Rattle.duct_system.specs.declared.system.Fault.{Fault}
 use Rattle.duct_system.specs.declared.system.Kind.{Kind}
@@ -13,18 +13,13 @@ use Rattle.duct_guard.specs.Rules.{Rules}
 
 -- whether an entry's request is allowed
 abbrev pub is_allowed : Rules → EntryView → Bool
-is_allowed rules (Environment answer) = true
-is_allowed rules (Pipe answer) = true
 is_allowed rules (OpenRead path answer) = rules.allows (request.read path)
 is_allowed rules (Create path answer) = rules.allows (request.create path)
 is_allowed rules (Duplicate lent answer) = rules.allows request.duplicate
 is_allowed rules (Parent side answer) = rules.allows (request.parent side)
 is_allowed rules (Canonicalize path answer) = rules.allows (request.canonicalize path)
 is_allowed rules (Spawn spec io answer) = rules.allows (request.spawn spec)
-is_allowed rules (Feed number bytes answer) = true
-is_allowed rules (Drain number answer) = true
-is_allowed rules (Reader number) = true
-is_allowed rules (Close number) = true
+is_allowed rules _ = true
 
 -- each entry's request is allowed
 abbrev pub AreAllowed : Rules → List EntryView → Type 0

@@ -1,12 +1,20 @@
--- How a journal changes when ends are closed as far as there is room.
-use Rattle.std.specs.Prelude.{ℕ, ◌⊎◌, List, length, map, take, Err}
-use Rattle.duct_system.specs.EntryView.{Spawn, Close}
+-- How a journal changes when several entries are added, and when ends are closed as far as there is
+-- room.
+use Rattle.std.specs.Prelude.{ℕ, ◌+◌, ◌≤◌, ◌≡◌, ◌⊎◌, List, ◌++◌, length, map, take, Err}
+use Rattle.duct_system.specs.EntryView.{EntryView, Spawn, Close}
 use Rattle.duct_system.specs.Journal.{JournalView, IsRefused}
 use Rattle.duct_system.specs.SpecView.{SpecView}
 use Rattle.duct_system.specs.Streams.{ends_of}
 use Rattle.duct_system.specs.declared.system.Fault.{Fault}
 use Rattle.duct_system.specs.declared.system.Stdio.{Stdio}
-use Rattle.duct_guard.specs.Added.{AddsAll}
+
+-- these entries were added, and none was cleared; the room is at least the old one, plus the ends
+-- that were returned, minus the ends that were taken
+pub record AddsAll (entries : List EntryView) (got given : ℕ) (old new : JournalView) : Type 0 where
+  pub entries_are : new.entries ≡ old.entries ++ entries
+  pub added_is : new.added ≡ old.added + length entries
+  pub next_grows : old.next ≤ new.next
+  pub room_is : old.room + got ≤ new.room + given
 
 -- the first of these ends were closed, as many as this room has entries, and nothing else was
 -- asked; each close took its own room

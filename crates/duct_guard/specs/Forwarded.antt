@@ -1,6 +1,5 @@
 -- What a guard asked of the system below, by the guard's own journal.
 use Rattle.std.specs.Prelude.{ℕ, Bool, true, false, ◌&&◌, ◌≡◌, ◌≤◌, ◌+◌, if◌then◌else◌, List, [], ◌∷◌, ◌++◌, length, map, nat_le, take, Ok, Err, Some}
-use Rattle.std.specs.declared.result.Result.{Result}
 use Rattle.duct_system.specs.EntryView.{EntryView, Environment, Canonicalize, Spawn, Close}
 use Rattle.duct_system.specs.Journal.{JournalView}
 use Rattle.duct_system.specs.Ledger.{opened_by, spent_by}
@@ -9,17 +8,12 @@ use Rattle.duct_system.specs.Trace.{fault_of}
 use Rattle.duct_system.specs.declared.system.Fault.{Fault}
 use Rattle.duct_system.specs.declared.system.Kind.TheVariants.{OutOfMemory, PermissionDenied}
 use Rattle.duct_system.specs.declared.system.Stdio.{Stdio}
-use Rattle.duct_guard.specs.Added.{AddsAll}
+use Rattle.duct_guard.specs.Closed.{AddsAll}
 use Rattle.duct_guard.specs.Allowed.{is_allowed}
-use Rattle.duct_system.specs.EntryView.{answer_of}
 use Rattle.duct_guard.specs.Held.{is_within, with_entry}
 use Rattle.duct_guard.specs.Requests as request
 use Rattle.duct_guard.specs.Rules.{Rules}
 use Rattle.duct_guard.specs.declared.counts.Held.{Held}
-
--- the fault at an allocation failure
-abbrev pub no_memory : Fault
-no_memory = record { kind = OutOfMemory }
 
 -- whether the request of an entry is allowed, where this is held
 abbrev pub may_ask : Rules → Held → EntryView → Bool
@@ -48,10 +42,10 @@ pub data Forwards (rules : Rules) (held : Held) (entry : EntryView) (below : Lis
   Crowded : (count : ℕ) (spec : SpecView) (io : List (Stdio ℕ))
       → entry ≡ Spawn spec io (Err (refusal false)) → rules.at_once ≤ held.children
       → below ≡ map Close (take count (spent_by entry)) → Forwards rules held entry below
-  LostVars : (vars : Vars) → entry ≡ Environment (Err no_memory)
+  LostVars : (vars : Vars) → entry ≡ Environment (Err (refusal true))
       → below ≡ Environment (Ok vars) ∷ [] → Forwards rules held entry below
   LostPath : (path name : List ℕ) → rules.allows (request.canonicalize path) ≡ true
-      → entry ≡ Canonicalize path (Err no_memory)
+      → entry ≡ Canonicalize path (Err (refusal true))
       → below ≡ Canonicalize path (Ok name) ∷ [] → Forwards rules held entry below
 
 -- what it was asked, all in all: for each entry of the guard, which held this before the first, in
@@ -70,9 +64,3 @@ pub record IsForwarded (rules : Rules) (held : Held) (entry : EntryView) (old ne
   pub asked : List EntryView
   pub forwards : Forwards rules held entry asked
   pub adds : AddsAll asked (length (opened_by entry)) (length (spent_by entry)) old new
-
--- the same for a request for an end that returned this
-abbrev pub ForwardsEnd : {E : Type 0} → Rules → Held → (E → ℕ) → (Result ℕ Fault → EntryView)
-    → Result E Fault → JournalView → JournalView → Type 0
-ForwardsEnd rules held number_of entry made old new =
-    IsForwarded rules held (entry (answer_of number_of made)) old new

@@ -1,6 +1,6 @@
 -- What a guard holds: how many ends are open, by its journal, and how many children were started.
-use Rattle.std.specs.Prelude.{ℕ, Bool, true, ◌+◌, ◌-◌, ◌≤◌, ◌≡◌, List, [], ◌∷◌, length, min, nat_le, Ok, Err, if◌then◌else◌}
-use Rattle.duct_system.specs.EntryView.{EntryView, Environment, Pipe, OpenRead, Create, Duplicate, Parent, Canonicalize, Spawn, Feed, Drain, Reader, Close}
+use Rattle.std.specs.Prelude.{ℕ, Bool, true, ◌+◌, ◌-◌, ◌≤◌, ◌≡◌, List, [], ◌∷◌, length, min, nat_le, Ok, if◌then◌else◌}
+use Rattle.duct_system.specs.EntryView.{EntryView, Pipe, OpenRead, Create, Duplicate, Parent, Spawn}
 use Rattle.duct_system.specs.Ledger.{opened_by, spent_by}
 use Rattle.duct_guard.specs.declared.counts.Counts.{Counts}
 use Rattle.duct_guard.specs.declared.counts.Held.{Held}
@@ -35,19 +35,8 @@ with_children held count = record held { children = held.children + count }
 
 -- the child that the request of an entry started
 abbrev pub child_of : EntryView → List ℕ
-child_of (Environment answer) = []
-child_of (Pipe answer) = []
-child_of (OpenRead path answer) = []
-child_of (Create path answer) = []
-child_of (Duplicate lent answer) = []
-child_of (Parent side answer) = []
-child_of (Canonicalize path answer) = []
 child_of (Spawn spec io (Ok number)) = number ∷ []
-child_of (Spawn spec io (Err fault)) = []
-child_of (Feed number bytes answer) = []
-child_of (Drain number answer) = []
-child_of (Reader number) = []
-child_of (Close number) = []
+child_of _ = []
 
 -- how many children it started
 abbrev pub started_by : EntryView → ℕ
@@ -67,18 +56,13 @@ held_after held (entry ∷ entries) = held_after (with_entry held entry) entries
 
 -- whether the request of an entry keeps within these limits, where this is held
 abbrev pub is_within : Counts → Held → EntryView → Bool
-is_within limits held (Environment answer) = true
 is_within limits held (Pipe answer) = nat_le (held.ends + 2) limits.ends
 is_within limits held (OpenRead path answer) = nat_le (held.ends + 1) limits.ends
 is_within limits held (Create path answer) = nat_le (held.ends + 1) limits.ends
 is_within limits held (Duplicate lent answer) = nat_le (held.ends + 1) limits.ends
 is_within limits held (Parent side answer) = nat_le (held.ends + 1) limits.ends
-is_within limits held (Canonicalize path answer) = true
 is_within limits held (Spawn spec io answer) = nat_le (held.children + 1) limits.children
-is_within limits held (Feed number bytes answer) = true
-is_within limits held (Drain number answer) = true
-is_within limits held (Reader number) = true
-is_within limits held (Close number) = true
+is_within limits held _ = true
 
 -- no more than these limits is held
 pub record Fits (limits held : Counts) : Type 0 where

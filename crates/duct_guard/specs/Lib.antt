@@ -1,7 +1,7 @@
-pub mod Added
 pub mod Allowed
 pub mod Closed
 pub mod Crew
+pub mod Ends
 pub mod Forwarded
 pub mod GuardView
 pub mod Held

@@ -1,10 +1,10 @@
 //! What a guard holds, and how much of it a policy allows.
-ghost use Rattle.std.specs.Prelude.{◌≡◌, ◌+◌, ◌≤◌, [], ◌∷◌, OnOk, OnErr};
+ghost use Rattle.std.specs.Prelude.{◌≡◌, ◌+◌, ◌≤◌, [], ◌∷◌, IfOk, OnOk, OnErr};
 ghost use Rattle.duct_system.specs.Streams.{ends_of};
 ghost use Rattle.duct_guard.specs.Held.{counts_of, nothing_held, with_children, with_ends, without_end, without_ends};
 ghost use Rattle.duct_guard.specs.Policies.{unlimited};
 
-use duct_system::system::{Fault, Stdio};
+use duct_system::system::{Fault, Numbered, Stdio};
 
 /// A number of ends and a number of children.
 #[derive(Clone, Copy, Debug, PartialEq, Eq)]
@@ -67,6 +67,18 @@ impl Held {
     {
         self.ends += 1;
         self.first = self.first.min(number);
+    }
+
+    /// Does the same, if the request returned one.
+    pub fn count_end<E: Numbered>(&mut self, made: &Result<E, Fault>)
+        requires { OnOk made.now (self.old.ends + 1 ≤ 18446744073709551615) }
+        ensures one { IfOk made.now
+            (λ end. self.new ≡ with_ends self.old (E.number_of end ∷ [])) }
+        ensures none { OnErr made.now (self.new ≡ self.old) }
+    {
+        if let Ok(end) = made {
+            self.open(end.number());
+        }
     }
 
     /// Counts an end less that a request took, if a request had returned it.

@@ -30,15 +30,6 @@ pub struct GuardedChild<C: Child> {
     note: Note<C>,
 }
 
-impl<C: Child> GuardedChild<C> {
-    /// Returns the child that notes its end there.
-    pub(crate) fn new(inner: C, note: Note<C>) -> GuardedChild<C>
-        ensures { result.inner ≡ inner }
-    {
-        GuardedChild { inner, note }
-    }
-}
-
 /// Returns whether it is noted that the child with this number has ended.
 pub(crate) fn has_ended<C: Child>(note: &Note<C>, number: u64) -> bool
     ensures { result ≡ true → HasEnded C.may_answer number }
@@ -152,5 +143,8 @@ pub(crate) fn join<C: Child>(
         number: child.number(),
         note,
     });
-    GuardedChild::new(child, theirs)
+    GuardedChild {
+        inner: child,
+        note: theirs,
+    }
 }

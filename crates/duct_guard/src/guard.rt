@@ -1,21 +1,21 @@
 //! A guarded system.
-ghost use Rattle.std.specs.Prelude.{◌≡◌, ◌≤◌, ◌<◌, ◌+◌, ◌-◌, [], ◌∷◌, ◌++◌, false, length, map, string_bytes, IfOk, IfErr, OnOk, OnErr};
+ghost use Rattle.std.specs.Prelude.{◌≡◌, ◌≤◌, ◌<◌, [], false, length, map, string_bytes, IfOk, IfErr};
 ghost use Rattle.duct_system.specs.EntryView.{entry_view};
-ghost use Rattle.duct_system.specs.declared.system.Kind.TheVariants.{OutOfMemory};
 ghost use Rattle.duct_guard.specs.Allowed.{AreAllowed, AreDenied};
 ghost use Rattle.duct_system.specs.EntryView.{answer_of};
 ghost use Rattle.duct_guard.specs.Closed.{ClosesFirst, SpendsEnds};
 ghost use Rattle.duct_guard.specs.Crew.{IsCrew};
+ghost use Rattle.duct_guard.specs.Ends.{GotEnd, end_entry};
 ghost use Rattle.duct_guard.specs.Forwarded.{ForwardsAll, allows_spawn};
-ghost use Rattle.duct_guard.specs.GuardView.{GuardView};
-ghost use Rattle.duct_guard.specs.Held.{AlwaysFits, Fits, IsBegun, counts_of, held_after, nothing_held, with_ends};
+ghost use Rattle.duct_guard.specs.GuardView.{GuardView, Keeps, OnlyForwards};
+ghost use Rattle.duct_guard.specs.Held.{AlwaysFits, Fits, IsBegun, counts_of, held_after, nothing_held};
 
 use crate::counts::{Counts, Held};
 use crate::crew::{GuardedChild, Member, forget_ended};
 use crate::policy::Policy;
 use crate::requests::{
-    canonicalize_twice, create_allowed, duplicate_allowed, environment_twice, no_memory,
-    open_read_allowed, parent_allowed, pipe_allowed, spawn_allowed, start_shared_feed,
+    EndRequest, canonicalize_noted, end_allowed, environment_noted, pipe_allowed, spawn_allowed,
+    start_shared_feed,
 };
 use duct_system::journal::Journal;
 use duct_system::spec::CommandSpec;
@@ -41,14 +41,8 @@ pub struct Guarded<S: System, P: Policy> {
     earlier: Held,
     held: Held,
     crew: Vec<Member<S::Child>>,
-    ghost within: { journal.room ≤ (S.journal_view inner).room },
-    ghost begun: { IsBegun earlier journal.added journal.entries },
-    ghost forwards: { ∥ ForwardsAll (P.rules policy) earlier journal.entries
-        (S.journal_view inner).entries ∥₁ },
-    ghost counted: { held ≡ held_after earlier journal.entries },
-    ghost fits: { Fits (P.rules policy).limits (counts_of earlier) },
-    ghost knows: { ∥ IsCrew S.Child.may_answer (P.rules policy).at_once earlier.children
-        journal.entries (map (λ m. m.number) crew.items) ∥₁ },
+    ghost keeps: { Keeps S.Child.may_answer (P.rules policy) earlier held journal
+        (S.journal_view inner) (map (λ m. m.number) crew.items) },
 }
 
 impl<S: System, P: Policy> Model for Guarded<S, P> {
@@ -165,6 +159,19 @@ impl<S: System, P: Policy> Guarded<S, P> {
         } = self;
         (inner, policy)
     }
+
+    fn end(&mut self, asked: &EndRequest<S::End>) -> Result<S::End, Fault>
+        ensures got { GotEnd S.End.number_of (end_entry S.End.number_of asked.now) result
+            self.old.journal self.new.journal }
+        ensures below { OnlyForwards S.journal_view P.rules self.old self.new }
+    {
+        let kept = self.journal.prepare_named(asked.path(), 1)?;
+        let answer = end_allowed(&self.policy, self.held, &mut self.inner, asked);
+        let made = self.journal.got(answer);
+        self.held.count_end(&made);
+        self.journal.add(asked.entry(kept, number_of(&made)));
+        made
+    }
 }
 
 // Returns whether a worker was started.
@@ -177,31 +184,6 @@ fn done<T>(made: &Result<T, Fault>) -> Result<(), Fault>
     }
 }
 
-// Adds the entry of a request for an end, and counts the end. If it failed, the room for the end is
-// released.
-fn note_end<E: Numbered>(
-    journal: &mut Journal,
-    held: &mut Held,
-    entry: Entry,
-    made: &Result<E, Fault>,
-)
-    requires room { 1 < journal.old.room }
-    requires count { OnOk made.now (held.old.ends + 1 ≤ 18446744073709551615) }
-    ensures entries { journal.new.entries ≡ journal.old.entries ++ entry_view entry ∷ [] }
-    ensures added { journal.new.added ≡ journal.old.added + 1 }
-    ensures ok { OnOk made.now (journal.new.room ≡ journal.old.room - 1) }
-    ensures err { OnErr made.now (journal.new.room ≡ journal.old.room - 2) }
-    ensures one { IfOk made.now
-        (λ end. held.new ≡ with_ends held.old (E.number_of end ∷ [])) }
-    ensures none { OnErr made.now (held.new ≡ held.old) }
-{
-    match made {
-        Ok(end) => held.open(end.number()),
-        Err(_) => journal.give_back(1),
-    }
-    journal.add(entry);
-}
-
 /// Where a request is forbidden, it fails with `PermissionDenied`; its entry is added, but nothing
 /// is asked below except to close ends. All else is as below.
 ///
@@ -212,10 +194,9 @@ impl<S: System, P: Policy> System for Guarded<S, P> {
     ghost use Rattle.duct_system.specs.Child.{IsUnasked};
     ghost use Rattle.duct_system.specs.EntryView.{Environment, Pipe, OpenRead, Create, Duplicate, Parent, Canonicalize, Spawn, Feed, Drain, Reader, Close};
     ghost use Rattle.duct_system.specs.Job.{unpolled_job};
-    ghost use Rattle.duct_system.specs.Journal.{Asks, GetsEnd, GetsEnds, GivesEnds, IsCleared, IsNew, IsRefused};
+    ghost use Rattle.duct_system.specs.Journal.{Asks, GetsEnds, GivesEnds, IsCleared, IsNew, IsRefused};
     ghost use Rattle.duct_system.specs.SpecView.{pair_text};
     ghost use Rattle.duct_system.specs.Streams.{stream_of, ends_of};
-    ghost use Rattle.duct_guard.specs.GuardView.{OnlyForwards};
     ghost use Rattle.std.specs.Arc.{arc_value};
 
     type End = S::End;
@@ -247,16 +228,9 @@ impl<S: System, P: Policy> System for Guarded<S, P> {
         ensures below { OnlyForwards S.journal_view P.rules self.old self.new }
     {
         self.journal.prepare(0)?;
-        match environment_twice(self.journal.allocator(), &mut self.inner) {
-            Ok((pairs, kept)) => {
-                self.journal.add(Entry::Environment(Ok(kept)));
-                Ok(pairs)
-            }
-            Err(fault) => {
-                self.journal.add(Entry::Environment(Err(fault)));
-                Err(fault)
-            }
-        }
+        let (pairs, entry) = environment_noted(self.journal.allocator(), &mut self.inner);
+        self.journal.add(entry);
+        pairs
     }
 
     fn pipe(&mut self) -> Result<(S::End, S::End), Fault>
@@ -286,65 +260,36 @@ impl<S: System, P: Policy> System for Guarded<S, P> {
     }
 
     fn open_read(&mut self, path: &str) -> Result<S::End, Fault>
-        ensures ok { IfOk result (λ end.
-            let number = S.End.number_of end in
-            GetsEnd (OpenRead path.now (Ok number)) number self.old.journal self.new.journal) }
-        ensures err { IfErr result (λ fault.
-            IsRefused (OpenRead path.now (Err fault)) 0 fault self.old.journal self.new.journal) }
+        ensures got { GotEnd S.End.number_of (λ answer. OpenRead path.now answer) result
+            self.old.journal self.new.journal }
         ensures below { OnlyForwards S.journal_view P.rules self.old self.new }
     {
-        let kept = self.journal.prepare_named(path, 1)?;
-        let made = open_read_allowed(&self.policy, self.held, &mut self.inner, path);
-        let entry = Entry::OpenRead(kept, number_of(&made));
-        note_end(&mut self.journal, &mut self.held, entry, &made);
-        made
+        self.end(&EndRequest::Read(path))
     }
 
     fn create(&mut self, path: &str) -> Result<S::End, Fault>
-        ensures ok { IfOk result (λ end.
-            let number = S.End.number_of end in
-            GetsEnd (Create path.now (Ok number)) number self.old.journal self.new.journal) }
-        ensures err { IfErr result (λ fault.
-            IsRefused (Create path.now (Err fault)) 0 fault self.old.journal self.new.journal) }
+        ensures got { GotEnd S.End.number_of (λ answer. Create path.now answer) result
+            self.old.journal self.new.journal }
         ensures below { OnlyForwards S.journal_view P.rules self.old self.new }
     {
-        let kept = self.journal.prepare_named(path, 1)?;
-        let made = create_allowed(&self.policy, self.held, &mut self.inner, path);
-        let entry = Entry::Create(kept, number_of(&made));
-        note_end(&mut self.journal, &mut self.held, entry, &made);
-        made
+        self.end(&EndRequest::Create(path))
     }
 
     fn duplicate(&mut self, end: &S::End) -> Result<S::End, Fault>
-        ensures ok { IfOk result (λ made.
-            let lent = S.End.number_of end.now in
-            let number = S.End.number_of made in
-            GetsEnd (Duplicate lent (Ok number)) number self.old.journal self.new.journal) }
-        ensures err { IfErr result (λ fault.
-            let lent = S.End.number_of end.now in
-            IsRefused (Duplicate lent (Err fault)) 0 fault self.old.journal self.new.journal) }
+        ensures got { GotEnd S.End.number_of
+            (λ answer. Duplicate (S.End.number_of end.now) answer) result
+            self.old.journal self.new.journal }
         ensures below { OnlyForwards S.journal_view P.rules self.old self.new }
     {
-        self.journal.prepare(1)?;
-        let made = duplicate_allowed(&self.policy, self.held, &mut self.inner, end);
-        let entry = Entry::Duplicate(end.number(), number_of(&made));
-        note_end(&mut self.journal, &mut self.held, entry, &made);
-        made
+        self.end(&EndRequest::Duplicate(end))
     }
 
     fn parent(&mut self, side: Side) -> Result<S::End, Fault>
-        ensures ok { IfOk result (λ made.
-            let number = S.End.number_of made in
-            GetsEnd (Parent side (Ok number)) number self.old.journal self.new.journal) }
-        ensures err { IfErr result (λ fault.
-            IsRefused (Parent side (Err fault)) 0 fault self.old.journal self.new.journal) }
+        ensures got { GotEnd S.End.number_of (λ answer. Parent side answer) result
+            self.old.journal self.new.journal }
         ensures below { OnlyForwards S.journal_view P.rules self.old self.new }
     {
-        self.journal.prepare(1)?;
-        let made = parent_allowed(&self.policy, self.held, &mut self.inner, side);
-        let entry = Entry::Parent(side, number_of(&made));
-        note_end(&mut self.journal, &mut self.held, entry, &made);
-        made
+        self.end(&EndRequest::Parent(side))
     }
 
     fn canonicalize(&mut self, path: &str) -> Result<String, Fault>
@@ -358,16 +303,9 @@ impl<S: System, P: Policy> System for Guarded<S, P> {
     {
         let asked = self.journal.prepare_named(path, 0)?;
         let alloc = self.journal.allocator();
-        match canonicalize_twice(alloc, &self.policy, &mut self.inner, path) {
-            Ok((text, kept)) => {
-                self.journal.add(Entry::Canonicalize(asked, Ok(kept)));
-                Ok(text)
-            }
-            Err(fault) => {
-                self.journal.add(Entry::Canonicalize(asked, Err(fault)));
-                Err(fault)
-            }
-        }
+        let (text, entry) = canonicalize_noted(alloc, &self.policy, &mut self.inner, path, asked);
+        self.journal.add(entry);
+        text
     }
 
     fn spawn(

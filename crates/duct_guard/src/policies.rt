@@ -3,7 +3,7 @@ ghost use Rattle.std.specs.Prelude.{◌≡◌, ◌&&◌, [], true, false, codes,
 ghost use Rattle.std.specs.Option.{option_map};
 ghost use Rattle.std.specs.List.{list_any};
 ghost use Rattle.duct_system.specs.SpecView.{pair_text};
-ghost use Rattle.duct_guard.specs.Policies.{are_kept, begins_with, begins_with_slash, climbs, has_value, is_below, is_fixed, is_found, is_listed};
+ghost use Rattle.duct_guard.specs.Policies.{are_kept, begins_with, begins_with_slash, climbs, has_value, is_below, is_found, is_listed};
 
 use crate::counts::Counts;
 use crate::policy::{Policy, PolicyError, Request};
@@ -70,7 +70,8 @@ impl Policy for Programs {
             Request::Spawn(spec) => match spec.words() {
                 [program, ..] => {
                     let program = program.as_str();
-                    is_listed(self.names.as_slice(), program) && is_fixed(&self.path, spec, program)
+                    is_listed(self.names.as_slice(), program)
+                        && (begins_with_slash(program) || is_found(&self.path, spec, program))
                 }
                 [] => false,
             },
@@ -85,13 +86,6 @@ impl Policy for Programs {
     fn at_once(&self) -> usize {
         usize::MAX
     }
-}
-
-// Returns whether a program is an absolute path, or a name that is looked up on this path.
-fn is_fixed(path: &Option<String>, spec: &CommandSpec, program: &str) -> bool
-    ensures { result ≡ is_fixed (option_map string_bytes path.now) spec.now.vars program.now }
-{
-    begins_with_slash(program) || is_found(path, spec, program)
 }
 
 fn begins_with_slash(text: &str) -> bool

@@ -2,19 +2,19 @@
 //! policy, or copies what the request takes or returns.
 ghost use Rattle.std.specs.Prelude.{◌≡◌, ◌<◌, ◌≤◌, ◌+◌, false, true, ◌⊎◌, ◌&&◌, min, nat_le, length, map, string_bytes, vec_len, vec_capacity, IfOk, IfErr, OnOk, OnErr, Ok, Err, ◌-◌};
 ghost use Rattle.duct_system.specs.Child.{IsUnasked};
-ghost use Rattle.duct_system.specs.EntryView.{Environment, Pipe, OpenRead, Create, Duplicate, Parent, Canonicalize, Spawn, Feed, answer_of};
+ghost use Rattle.duct_system.specs.EntryView.{Environment, Pipe, Canonicalize, Spawn, Feed, answer_of, entry_view};
 ghost use Rattle.duct_system.specs.Job.{unpolled_job};
-ghost use Rattle.duct_system.specs.Journal.{GetsEnds, IsNew, IsRefused};
+ghost use Rattle.duct_system.specs.Journal.{GetsEnds, IsNew};
 ghost use Rattle.duct_system.specs.SpecView.{pair_text};
-ghost use Rattle.duct_system.specs.Streams.{stream_of, ends_of, end_of, StreamsFit};
+ghost use Rattle.duct_system.specs.Streams.{stream_of, ends_of, end_of};
 ghost use Rattle.duct_guard.specs.Closed.{ClosesFirst, SpendsEnds};
 ghost use Rattle.duct_guard.specs.Crew.{Joins, Leaves};
-ghost use Rattle.duct_guard.specs.Forwarded.{ForwardsEnd, IsForwarded, allows_spawn, refusal};
+ghost use Rattle.duct_guard.specs.Ends.{GotEnd, asked_of, end_entry, path_of};
+ghost use Rattle.duct_guard.specs.Forwarded.{IsForwarded, allows_spawn, refusal};
 ghost use Rattle.duct_guard.specs.Requests.{request_view};
 ghost use Rattle.duct_guard.specs.Rules.{Rules};
 ghost use Rattle.duct_guard.specs.declared.counts.Held.{Held};
 ghost use Rattle.std.specs.Arc.{arc_value};
-ghost use Rattle.duct_system.specs.declared.system.Kind.TheVariants.{OutOfMemory};
 
 use crate::counts::Held;
 use crate::crew::{GuardedChild, Member, Notes, forget_ended, join, prepare};
@@ -22,11 +22,10 @@ use crate::policy::{Policy, Request};
 use duct_system::copy::{copies_of, spec_copy};
 use duct_system::journal::Journal;
 use duct_system::spec::CommandSpec;
-use duct_system::system::{Child, Fault, Kind, Numbered, Side, Stdio, System};
+use duct_system::system::{Child, Entry, Fault, Kind, Numbered, Side, Stdio, System};
 use std::alloc::Global;
 use std::sync::Arc;
 
-// Returns the fault of a forbidden request.
 fn forbidden() -> Fault
     ensures { result ≡ refusal false }
 {
@@ -40,25 +39,24 @@ pub(crate) fn no_memory() -> Fault
     Fault::new(Kind::OutOfMemory)
 }
 
-/// Requests the environment. Returns it with a copy. Fails with `OutOfMemory` where there is no
-/// memory for the copy.
-pub(crate) fn environment_twice<S: System>(
+/// Requests the environment. Returns it with its entry. Fails with `OutOfMemory` where there is no
+/// memory for the copy that the entry has.
+pub(crate) fn environment_noted<S: System>(
     alloc: Global,
     sys: &mut S,
-) -> Result<(Vec<(String, String)>, Vec<(String, String)>), Fault>
-    ensures same { IfOk result
-        (λ both. map pair_text both.1.items ≡ map pair_text both.0.items) }
-    ensures ok { IfOk result (λ both. (rules : Rules) (held : Held) →
-        IsForwarded rules held (Environment (Ok (map pair_text both.0.items)))
-        (S.journal_view sys.old) (S.journal_view sys.new)) }
-    ensures err { IfErr result (λ fault. (rules : Rules) (held : Held) →
-        IsForwarded rules held (Environment (Err fault)) (S.journal_view sys.old)
-        (S.journal_view sys.new)) }
+) -> (Result<Vec<(String, String)>, Fault>, Entry)
+    ensures entry { entry_view result.1
+        ≡ Environment (answer_of (λ pairs. map pair_text pairs.items) result.0) }
+    ensures forwards { (rules : Rules) (held : Held) → IsForwarded rules held
+        (Environment (answer_of (λ pairs. map pair_text pairs.items) result.0))
+        (S.journal_view sys.old) (S.journal_view sys.new) }
 {
-    let pairs = sys.environment()?;
-    match copies_of(alloc, pairs.as_slice()) {
-        Ok(kept) => Ok((pairs, kept)),
-        Err(_) => Err(no_memory()),
+    match sys.environment() {
+        Ok(pairs) => match copies_of(alloc, pairs.as_slice()) {
+            Ok(kept) => (Ok(pairs), Entry::Environment(Ok(kept))),
+            Err(_) => (Err(no_memory()), Entry::Environment(Err(no_memory()))),
+        },
+        Err(fault) => (Err(fault), Entry::Environment(Err(fault))),
     }
 }
 
@@ -72,14 +70,6 @@ fn allows_ends<P: Policy>(policy: &P, held: Held, more: usize) -> bool
         Some(ends) => ends <= limit,
         None => false,
     }
-}
-
-// Returns whether the policy allows one more child to be started.
-fn allows_child<P: Policy>(policy: &P, held: Held) -> bool
-    ensures within { result ≡ nat_le (held.children + 1) (P.rules policy.now).limits.children }
-    ensures counts { result ≡ true → held.children + 1 ≤ 18446744073709551615 }
-{
-    held.children < policy.limits().children
 }
 
 // Returns whether the policy allows a request that returns an end.
@@ -96,7 +86,7 @@ fn may_spawn<P: Policy>(policy: &P, held: Held, spec: &CommandSpec) -> bool
     ensures allowed { result ≡ allows_spawn (P.rules policy.now) held spec.now }
     ensures counts { result ≡ true → held.children + 1 ≤ 18446744073709551615 }
 {
-    policy.allows(Request::Spawn(spec)) && allows_child(policy, held)
+    policy.allows(Request::Spawn(spec)) && held.children < policy.limits().children
 }
 
 /// Opens a pipe, if the policy allows two more ends.
@@ -105,15 +95,14 @@ pub(crate) fn pipe_allowed<S: System, P: Policy>(
     held: Held,
     sys: &mut S,
 ) -> Result<(S::End, S::End), Fault>
+    ensures forwards { IsForwarded (P.rules policy.now) held
+        (Pipe (answer_of (λ ends. (S.End.number_of ends.0, S.End.number_of ends.1)) result))
+        (S.journal_view sys.old) (S.journal_view sys.new) }
     ensures ok { IfOk result (λ ends.
         let read = S.End.number_of ends.0 in
         let write = S.End.number_of ends.1 in
-        IsForwarded (P.rules policy.now) held (Pipe (Ok (read, write))) (S.journal_view sys.old)
-        (S.journal_view sys.new)
-        × GetsEnds (Pipe (Ok (read, write))) read write (S.journal_view sys.old)
+        GetsEnds (Pipe (Ok (read, write))) read write (S.journal_view sys.old)
         (S.journal_view sys.new)) }
-    ensures err { IfErr result (λ fault. IsForwarded (P.rules policy.now) held (Pipe (Err fault))
-        (S.journal_view sys.old) (S.journal_view sys.new)) }
     ensures counts { OnOk result (held.ends + 2 ≤ 18446744073709551615) }
 {
     if allows_ends(policy, held, 2) {
@@ -123,110 +112,120 @@ pub(crate) fn pipe_allowed<S: System, P: Policy>(
     }
 }
 
-/// Opens a file for reading, if the policy allows it and one more end.
-pub(crate) fn open_read_allowed<S: System, P: Policy>(
-    policy: &P,
-    held: Held,
-    sys: &mut S,
-    path: &str,
-) -> Result<S::End, Fault>
-    ensures forwards { ForwardsEnd (P.rules policy.now) held S.End.number_of (OpenRead path.now)
-        result (S.journal_view sys.old) (S.journal_view sys.new) }
-    ensures fresh { IfOk result (λ end.
-        IsNew (S.journal_view sys.old) (S.journal_view sys.new) (S.End.number_of end)) }
-    ensures counts { OnOk result (held.ends + 1 ≤ 18446744073709551615) }
-{
-    if may_open(policy, held, Request::Read(path)) {
-        sys.open_read(path)
-    } else {
-        Err(forbidden())
+/// A request for an end.
+#[derive(Drop)]
+pub(crate) enum EndRequest<'a, E> {
+    /// To open this file for reading.
+    Read(&'a str),
+    /// To open this file for writing.
+    Create(&'a str),
+    /// To return one more end of what this end reads or writes.
+    Duplicate(&'a E),
+    /// To return one more end of this stream of the parent.
+    Parent(Side),
+}
+
+impl<E: Numbered> EndRequest<'_, E> {
+    /// Returns the path that it names, or the empty text.
+    pub fn path(&self) -> &str
+        ensures { result.now ≡ path_of self.now }
+    {
+        match self {
+            EndRequest::Read(path) | EndRequest::Create(path) => path,
+            EndRequest::Duplicate(_) | EndRequest::Parent(_) => "",
+        }
+    }
+
+    /// Returns the entry of the request with this answer, by a copy of its path.
+    pub fn entry(&self, path: String, answer: Result<u64, Fault>) -> Entry
+        requires { string_bytes path ≡ path_of self.now }
+        ensures { entry_view result ≡ end_entry E.number_of self.now answer }
+    {
+        match self {
+            EndRequest::Read(_) => Entry::OpenRead(path, answer),
+            EndRequest::Create(_) => Entry::Create(path, answer),
+            EndRequest::Duplicate(end) => Entry::Duplicate(end.number(), answer),
+            EndRequest::Parent(side) => Entry::Parent(*side, answer),
+        }
+    }
+
+    // Returns what a policy is asked about it.
+    fn request(&self) -> Request<'_>
+        ensures { request_view result ≡ asked_of self.now }
+    {
+        match self {
+            EndRequest::Read(path) => Request::Read(path),
+            EndRequest::Create(path) => Request::Create(path),
+            EndRequest::Duplicate(_) => Request::Duplicate,
+            EndRequest::Parent(side) => Request::Parent(*side),
+        }
     }
 }
 
-/// Opens a file for writing, if the policy allows it and one more end.
-pub(crate) fn create_allowed<S: System, P: Policy>(
+/// Makes a request for an end, if the policy allows it and one more end.
+pub(crate) fn end_allowed<S: System, P: Policy>(
     policy: &P,
     held: Held,
     sys: &mut S,
-    path: &str,
+    asked: &EndRequest<S::End>,
 ) -> Result<S::End, Fault>
-    ensures forwards { ForwardsEnd (P.rules policy.now) held S.End.number_of (Create path.now)
-        result (S.journal_view sys.old) (S.journal_view sys.new) }
-    ensures fresh { IfOk result (λ end.
-        IsNew (S.journal_view sys.old) (S.journal_view sys.new) (S.End.number_of end)) }
-    ensures counts { OnOk result (held.ends + 1 ≤ 18446744073709551615) }
-{
-    if may_open(policy, held, Request::Create(path)) {
-        sys.create(path)
-    } else {
-        Err(forbidden())
-    }
-}
-
-/// Returns one more end of what an end reads or writes, if the policy allows it and one more end.
-pub(crate) fn duplicate_allowed<S: System, P: Policy>(
-    policy: &P,
-    held: Held,
-    sys: &mut S,
-    end: &S::End,
-) -> Result<S::End, Fault>
-    ensures forwards { ForwardsEnd (P.rules policy.now) held S.End.number_of
-        (Duplicate (S.End.number_of end.now)) result (S.journal_view sys.old)
-        (S.journal_view sys.new) }
-    ensures fresh { IfOk result (λ end.
-        IsNew (S.journal_view sys.old) (S.journal_view sys.new) (S.End.number_of end)) }
-    ensures counts { OnOk result (held.ends + 1 ≤ 18446744073709551615) }
-{
-    if may_open(policy, held, Request::Duplicate) {
-        sys.duplicate(end)
-    } else {
-        Err(forbidden())
-    }
-}
-
-/// Returns one more end of the parent's own stream, if the policy allows it and one more end.
-pub(crate) fn parent_allowed<S: System, P: Policy>(
-    policy: &P,
-    held: Held,
-    sys: &mut S,
-    side: Side,
-) -> Result<S::End, Fault>
-    ensures forwards { ForwardsEnd (P.rules policy.now) held S.End.number_of (Parent side) result
+    ensures forwards { IsForwarded (P.rules policy.now) held
+        (end_entry S.End.number_of asked.now (answer_of S.End.number_of result))
         (S.journal_view sys.old) (S.journal_view sys.new) }
     ensures fresh { IfOk result (λ end.
         IsNew (S.journal_view sys.old) (S.journal_view sys.new) (S.End.number_of end)) }
     ensures counts { OnOk result (held.ends + 1 ≤ 18446744073709551615) }
 {
-    if may_open(policy, held, Request::Parent(side)) {
-        sys.parent(side)
+    if may_open(policy, held, asked.request()) {
+        end_asked(sys, asked)
     } else {
         Err(forbidden())
     }
 }
 
-/// Requests a canonical path, if the policy allows it. Returns it with a copy. Fails with
-/// `OutOfMemory` where there is no memory for the copy.
-pub(crate) fn canonicalize_twice<S: System, P: Policy>(
+fn end_asked<S: System>(sys: &mut S, asked: &EndRequest<S::End>) -> Result<S::End, Fault>
+    ensures { GotEnd S.End.number_of (end_entry S.End.number_of asked.now) result
+        (S.journal_view sys.old) (S.journal_view sys.new) }
+{
+    match asked {
+        EndRequest::Read(path) => sys.open_read(path),
+        EndRequest::Create(path) => sys.create(path),
+        EndRequest::Duplicate(end) => sys.duplicate(end),
+        EndRequest::Parent(side) => sys.parent(*side),
+    }
+}
+
+/// Requests a canonical path, if the policy allows it. Returns it with its entry, which has this
+/// copy of the path. Fails with `OutOfMemory` where there is no memory for the entry's own copy.
+pub(crate) fn canonicalize_noted<S: System, P: Policy>(
     alloc: Global,
     policy: &P,
     sys: &mut S,
     path: &str,
-) -> Result<(String, String), Fault>
-    ensures same { IfOk result (λ both. string_bytes both.1 ≡ string_bytes both.0) }
-    ensures ok { IfOk result (λ both. (held : Held) →
-        IsForwarded (P.rules policy.now) held (Canonicalize path.now (Ok (string_bytes both.0)))
-        (S.journal_view sys.old) (S.journal_view sys.new)) }
-    ensures err { IfErr result (λ fault. (held : Held) →
-        IsForwarded (P.rules policy.now) held (Canonicalize path.now (Err fault))
-        (S.journal_view sys.old) (S.journal_view sys.new)) }
+    asked: String,
+) -> (Result<String, Fault>, Entry)
+    requires { string_bytes asked ≡ path.now }
+    ensures entry { entry_view result.1
+        ≡ Canonicalize path.now (answer_of (λ text. string_bytes text) result.0) }
+    ensures forwards { (held : Held) → IsForwarded (P.rules policy.now) held
+        (Canonicalize path.now (answer_of (λ text. string_bytes text) result.0))
+        (S.journal_view sys.old) (S.journal_view sys.new) }
 {
     if !policy.allows(Request::Canonicalize(path)) {
-        return Err(forbidden());
+        return (
+            Err(forbidden()),
+            Entry::Canonicalize(asked, Err(forbidden())),
+        );
     }
-    let text = sys.canonicalize(path)?;
-    match String::from_str(alloc, text.as_str()) {
-        Ok(kept) => Ok((text, kept)),
-        Err(_) => Err(no_memory()),
+    match sys.canonicalize(path) {
+        Ok(text) => match String::from_str(alloc, text.as_str()) {
+            Ok(kept) => (Ok(text), Entry::Canonicalize(asked, Ok(kept))),
+            Err(_) => (
+                Err(no_memory()),
+                Entry::Canonicalize(asked, Err(no_memory())),
+            ),
+        },
+        Err(fault) => (Err(fault), Entry::Canonicalize(asked, Err(fault))),
     }
 }
 

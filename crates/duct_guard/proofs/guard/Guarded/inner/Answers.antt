@@ -7,4 +7,4 @@ use Rattle.duct_guard.proofs.guard.Guarded.inner.Goals as goal
 pub returns-clause-allowed : goal.returns-clause-allowed
 returns-clause-allowed g c =
     subst (λ policy. AreAllowed (g.P.Policy.rules policy) (g.S.System.journal_view c.self.inside.inner).entries)
-    (ap (λ (v : GuardView _ _). v.policy) c.self.view_is) (below_allowed _ _ _ _ c.self.inside.forwards)
+    (ap (λ (v : GuardView _ _). v.policy) c.self.view_is) (below_allowed _ _ _ _ c.self.inside.keeps.forwards)

@@ -13,15 +13,13 @@ invariant_of-result g c =
     let none = ap (λ (j : JournalView). j.entries) c.new.ensures in
     let ends = ap (λ (h : Held). h.ends) c.nothing.ensures in
     let children = ap (λ (h : Held). h.children) c.nothing.ensures in (
-      omega (arith, room),
-      (
-        begun_first _ _ _ none c.nothing.ensures,
-        (
-          nothing_noted _ _ _ _ none c.requires,
-          (
-            search (rules, common_steps),
-            (record { ends = omega (arith, ends); children = omega (arith, children) }, (rw c.new-2.ensures.items (no_crew g.S.Child.Child.may_answer _ _ _ none children), tt)),
-          ),
-        ),
-      ),
+      record {
+        within = omega (arith, room);
+        begun = begun_first _ _ _ none c.nothing.ensures;
+        forwards = nothing_noted _ _ _ _ none c.requires;
+        counted = search (rules, common_steps);
+        fits = record { ends = omega (arith, ends); children = omega (arith, children) };
+        knows = rw c.new-2.ensures.items (no_crew g.S.Child.Child.may_answer _ _ _ none children);
+      },
+      tt,
     )

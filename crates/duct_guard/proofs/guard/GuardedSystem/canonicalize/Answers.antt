@@ -1,58 +1,26 @@
-use Rattle.std.proofs.Common.{refl, ap, arith, rules}
+use Rattle.std.proofs.Common.{refl, rules, arith}
 use Rattle.std.proofs.lemmas.Grind.{common_steps}
-use Rattle.duct_system.specs.Journal.{JournalView}
-use Rattle.duct_guard.proofs.Beginning.{begun_still}
 use Rattle.duct_guard.proofs.Below.{none_asked, one_asked}
-use Rattle.duct_guard.proofs.Counting.{one_held}
+use Rattle.duct_guard.proofs.Counting.{noted_one, notes}
 use Rattle.duct_guard.proofs.guard.GuardedSystem.canonicalize.Goals as goal
 
-pub invariant_of-self-inside-in-Ok : goal.invariant_of-self-inside-in-Ok
-invariant_of-self-inside-in-Ok g c =
-    let sent = c.in-Ok.ensures.ok c.self.inside.held in
-    let ready = ap (λ (j : JournalView). j.room) c.in_ok-asked.ensures.ok.1 in
-    let same = ap (λ (j : JournalView). j.entries) c.in_ok-asked.ensures.ok.1 in
-    let room = ap (λ (j : JournalView). j.room) c.add.ensures in
-    let noted = ap (λ (j : JournalView). j.entries) c.add.ensures in (
-      omega (arith, ready, room, sent.adds.room_is, c.self.inside.within),
-      (
-        begun_still _ _ _ _ _ _ _ _ c.self.inside.begun same (ap (λ (j : JournalView). j.added) c.in_ok-asked.ensures.ok.1) noted (ap (λ (j : JournalView). j.added) c.add.ensures),
-        one_held _ _ _ _ _ _ _ _ _ _ _ c.self.inside.forwards c.self.inside.counted c.self.inside.fits c.self.inside.knows sent refl (cc (same, noted, c.in-Ok.ensures.same, c.in_ok-asked.ensures.ok.0)) refl refl refl,
-      ),
-    )
+pub invariant_of-self-inside-2 : goal.invariant_of-self-inside-2
+invariant_of-self-inside-2 g c =
+    (noted_one c.self.inside.keeps (c.canonicalize_noted-text.ensures.forwards _) (notes c.in_ok-asked.ensures.ok.1 c.add.ensures c.canonicalize_noted-text.ensures.entry) (omega arith) refl refl, tt)
 
-pub invariant_of-self-inside-in-Err : goal.invariant_of-self-inside-in-Err
-invariant_of-self-inside-in-Err g c =
-    let sent = c.in-Err.ensures.err c.self.inside.held in
-    let ready = ap (λ (j : JournalView). j.room) c.in_ok-asked.ensures.ok.1 in
-    let same = ap (λ (j : JournalView). j.entries) c.in_ok-asked.ensures.ok.1 in
-    let room = ap (λ (j : JournalView). j.room) c.add-in-Err.ensures in
-    let noted = ap (λ (j : JournalView). j.entries) c.add-in-Err.ensures in (
-      omega (arith, ready, room, sent.adds.room_is, c.self.inside.within),
-      (
-        begun_still _ _ _ _ _ _ _ _ c.self.inside.begun same (ap (λ (j : JournalView). j.added) c.in_ok-asked.ensures.ok.1) noted (ap (λ (j : JournalView). j.added) c.add-in-Err.ensures),
-        one_held _ _ _ _ _ _ _ _ _ _ _ c.self.inside.forwards c.self.inside.counted c.self.inside.fits c.self.inside.knows sent refl (cc (same, noted, c.in_ok-asked.ensures.ok.0)) refl refl refl,
-      ),
-    )
+pub returns-clause-ok : goal.returns-clause-ok
+returns-clause-ok g c =
+    let grows = (c.canonicalize_noted-text.ensures.forwards c.self.inside.held).adds.next_grows in
+    search (rules, common_steps)
 
-pub returns-in-Ok-clause-ok : goal.returns-in-Ok-clause-ok
-returns-in-Ok-clause-ok g c =
-    let grows = (c.in-Ok.ensures.ok c.self.inside.held).adds.next_grows in search (rules, common_steps)
-
-pub returns-in-Err-clause-err : goal.returns-in-Err-clause-err
-returns-in-Err-clause-err g c =
-    let grows = (c.in-Err.ensures.err c.self.inside.held).adds.next_grows in search (rules, common_steps)
+pub returns-clause-err : goal.returns-clause-err
+returns-clause-err g c =
+    let grows = (c.canonicalize_noted-text.ensures.forwards c.self.inside.held).adds.next_grows in
+    search (rules, common_steps)
 
 pub returns-in_err-asked-clause-below : goal.returns-in_err-asked-clause-below
 returns-in_err-asked-clause-below g c = none_asked _ _ _ _ (cc (c.self.view_is, c.in_err-asked.ensures.err.1))
 
-pub returns-in-Ok-clause-below : goal.returns-in-Ok-clause-below
-returns-in-Ok-clause-below g c =
-    let same = ap (λ (j : JournalView). j.entries) c.in_ok-asked.ensures.ok.1 in
-    let noted = ap (λ (j : JournalView). j.entries) c.add.ensures in
-    one_asked _ _ _ _ _ _ c.self.view_is (c.in-Ok.ensures.ok _) (cc (same, noted, c.in-Ok.ensures.same, c.in_ok-asked.ensures.ok.0)) refl refl
-
-pub returns-in-Err-clause-below : goal.returns-in-Err-clause-below
-returns-in-Err-clause-below g c =
-    let same = ap (λ (j : JournalView). j.entries) c.in_ok-asked.ensures.ok.1 in
-    let noted = ap (λ (j : JournalView). j.entries) c.add-in-Err.ensures in
-    one_asked _ _ _ _ _ _ c.self.view_is (c.in-Err.ensures.err _) (cc (same, noted, c.in_ok-asked.ensures.ok.0)) refl refl
+pub returns-clause-below : goal.returns-clause-below
+returns-clause-below g c =
+    one_asked _ _ _ _ _ _ c.self.view_is (c.canonicalize_noted-text.ensures.forwards _) (notes c.in_ok-asked.ensures.ok.1 c.add.ensures c.canonicalize_noted-text.ensures.entry) refl refl refl

@@ -8,20 +8,16 @@ use Rattle.duct_guard.proofs.guard.GuardedSystem.clear_journal.Goals as goal
 
 pub invariant_of-self-inside : goal.invariant_of-self-inside
 invariant_of-self-inside g c =
+    let kept = c.self.inside.keeps in
     let room = ap (λ (j : JournalView). j.room) c.clear.ensures in
     let none = ap (λ (j : JournalView). j.entries) c.clear.ensures in (
-      omega (arith, room, c.clear_journal.ensures.room_grows, c.self.inside.within),
-      (
-        begun_again _ _ _ _ _ _ c.self.inside.begun c.self.inside.counted (ap (λ (j : JournalView). j.added) c.clear.ensures) none,
-        (
-          nothing_noted _ _ _ _ none c.clear_journal.ensures.entries_are,
-          (
-            rw none refl,
-            (
-              now_fits _ _ _ _ _ c.self.inside.fits c.self.inside.forwards c.self.inside.counted,
-              (crew_cleared _ _ _ _ _ _ _ c.self.inside.knows c.self.inside.counted none, tt),
-            ),
-          ),
-        ),
-      ),
+      record {
+        within = omega (arith, room, c.clear_journal.ensures.room_grows, kept.within);
+        begun = begun_again _ _ _ _ _ _ kept.begun kept.counted (ap (λ (j : JournalView). j.added) c.clear.ensures) none;
+        forwards = nothing_noted _ _ _ _ none c.clear_journal.ensures.entries_are;
+        counted = rw none refl;
+        fits = now_fits _ _ _ _ _ kept.fits kept.forwards kept.counted;
+        knows = crew_cleared _ _ _ _ _ _ _ kept.knows kept.counted none;
+      },
+      tt,
     )

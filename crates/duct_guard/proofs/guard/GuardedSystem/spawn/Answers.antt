@@ -1,35 +1,30 @@
 use Rattle.std.proofs.Common.{refl, sym, ◌∙◌, inr, rules, ap, arith, map, vec_len, ◌≤◌}
 use Rattle.std.proofs.lemmas.Grind.{common_steps}
-use Rattle.duct_system.specs.Journal.{JournalView}
 use Rattle.duct_system.specs.Streams.{stream_of, ends_of}
 use Rattle.duct_guard.specs.declared.crew.GuardedChild.{GuardedChild}
 use Rattle.duct_guard.specs.GuardView.{GuardView}
-use Rattle.duct_guard.proofs.Beginning.{begun_still}
 use Rattle.duct_guard.proofs.Below.{none_asked, one_asked}
 use Rattle.duct_guard.proofs.Closing.{nothing_closed, on_err, streams_count}
+use Rattle.duct_guard.proofs.Counting.{noted_child, notes}
 use Rattle.duct_guard.proofs.Crews.{crew_started}
-use Rattle.duct_guard.proofs.Limiting.{child_held, one_spawned}
 use Rattle.duct_guard.proofs.guard.GuardedSystem.spawn.Goals as goal
 
 pub invariant_of-self-inside-2 : goal.invariant_of-self-inside-2
 invariant_of-self-inside-2 g c =
     let number = λ (child : GuardedChild g.row.S-Child.Denot g.S.Child.Child g.S.Child.Numbered). g.S.Child.Numbered.number_of child.inner in
-    let sent = c.spawn_allowed-started.ensures.forwards in
-    let below = rw (streams_count g.S.End.Numbered.number_of c.args.io) at sent.adds.room_is in
-    let ready = ap (λ (j : JournalView). j.room) c.in_ok-prepare_spawn.ensures.ok in
-    let same = ap (λ (j : JournalView). j.entries) c.in_ok-prepare_spawn.ensures.ok in
-    let room = ap (λ (j : JournalView). j.room) c.add.ensures in
-    let noted = ap (λ (j : JournalView). j.entries) c.add.ensures in (
-      omega (arith, ready, room, below, c.numbered_streams-ends.ensures.ends, c.self.inside.within),
-      (
-        begun_still _ _ _ _ _ _ _ _ c.self.inside.begun same (ap (λ (j : JournalView). j.added) c.in_ok-prepare_spawn.ensures.ok) noted (ap (λ (j : JournalView). j.added) c.add.ensures),
-        one_spawned _ _ _ _ _ _ number c.args.spec (map (stream_of g.S.End.Numbered.number_of) c.args.io) c.spawn_allowed-started.result _ _ c.self.inside.forwards c.self.inside.counted c.self.inside.fits c.self.inside.knows c.spawn_allowed-started.ensures.joins c.spawn_allowed-started.ensures.stays sent (cc (same, noted, c.numbered_streams-ends.ensures.streams)) (child_held number c.args.spec (map (stream_of g.S.End.Numbered.number_of) c.args.io) _ _ c.spawn_allowed-started.result (rw c.numbered_streams-ends.ensures.streams at c.count_spawn.ensures.one) (rw c.numbered_streams-ends.ensures.streams at c.count_spawn.ensures.none)),
-      ),
+    let io = map (stream_of g.S.End.Numbered.number_of) c.args.io in
+    let count = streams_count g.S.End.Numbered.number_of c.args.io in
+    let streams = c.numbered_streams-ends.ensures.streams in (
+      noted_child number c.args.spec io c.spawn_allowed-started.result c.self.inside.keeps c.spawn_allowed-started.ensures.forwards (notes c.in_ok-prepare_spawn.ensures.ok c.add.ensures (cc streams))
+          (omega (arith, count, c.numbered_streams-ends.ensures.ends)) c.spawn_allowed-started.ensures.joins c.spawn_allowed-started.ensures.stays
+          (rw streams at c.count_spawn.ensures.one) (rw streams at c.count_spawn.ensures.none),
+      tt,
     )
 
 pub spawn_allowed-started-requires : goal.spawn_allowed-started-requires
 spawn_allowed-started-requires g c =
-    let crew = crew_started g.S.Child.Child.may_answer _ _ (λ m. m.number) c.self.inside.earlier c.self.inside.held c.self.inside.journal.entries c.self.inside.crew.items c.self.inside.knows refl c.self.inside.counted in
+    let kept = c.self.inside.keeps in
+    let crew = crew_started g.S.Child.Child.may_answer _ _ (λ m. m.number) c.self.inside.earlier c.self.inside.held c.self.inside.journal.entries c.self.inside.crew.items kept.knows refl kept.counted in
     let long = c.self.inside.crew.ok in
     let few : vec_len c.self.inside.crew ≤ c.self.inside.held.children = omega (arith, crew, long) in
     search (rules, common_steps)
@@ -45,6 +40,4 @@ returns-in_err-prepare_spawn-clause-below g c = none_asked _ _ _ _ (cc (c.self.v
 
 pub returns-clause-below : goal.returns-clause-below
 returns-clause-below g c =
-    let same = ap (λ (j : JournalView). j.entries) c.in_ok-prepare_spawn.ensures.ok in
-    let noted = ap (λ (j : JournalView). j.entries) c.add.ensures in
-    one_asked _ _ _ _ _ _ c.self.view_is c.spawn_allowed-started.ensures.forwards (cc (same, noted, c.numbered_streams-ends.ensures.streams)) refl refl
+    one_asked _ _ _ _ _ _ c.self.view_is c.spawn_allowed-started.ensures.forwards (notes c.in_ok-prepare_spawn.ensures.ok c.add.ensures (cc c.numbered_streams-ends.ensures.streams)) refl refl refl
