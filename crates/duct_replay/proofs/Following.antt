@@ -12,8 +12,7 @@ use Rattle.duct_system.specs.Journal.{JournalView}
 use Rattle.duct_system.specs.declared.system.Fault.{Fault}
 use Rattle.duct_system.specs.declared.system.Kind.TheVariants.{OutOfMemory}
 use Rattle.duct_replay.specs.Answers.{IsToldRight}
-use Rattle.duct_replay.specs.Retraces.{Agrees, DiffersAt, Retraces}
-use Rattle.duct_replay.specs.Replays.{difference_after, entry_at}
+use Rattle.duct_replay.specs.Replays.{Agrees, DiffersAt, Retraces, difference_after, entry_at}
 
 -- one more entry makes a list longer by one
 longer : (asked : List EntryView) (entry : EntryView) → length (asked ++ entry ∷ []) ≡ length asked + 1

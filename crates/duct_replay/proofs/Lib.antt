@@ -9,6 +9,5 @@ pub mod Noting
 pub mod OneLine
 pub mod Ordered
 pub mod Reading
-pub mod Replaying
 pub mod RoundTrip
 pub mod Shallow

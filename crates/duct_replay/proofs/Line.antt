@@ -1,38 +1,35 @@
--- The text of an entry's line, read back.
+-- The text of an item, read back.
 use Rattle.std.proofs.Common.{◌≡◌, ℕ, ◌≤◌, List, false, Some, Ok, ap, sym, subst, ◌∙◌, arith}
 use Rattle.serde_json.specs.Data.{Data, depth}
 use Rattle.serde_json.specs.Written.{compact_text, has_float}
 use Rattle.serde_json.specs.Read.{max_depth, read}
-use Rattle.duct_system.specs.EntryView.{EntryView}
-use Rattle.duct_replay.specs.EntryData.{entry_data}
-use Rattle.duct_replay.specs.Meant.{json_meant, line_meant}
-use Rattle.duct_replay.specs.Writable.{IsWritable}
+use Rattle.duct_replay.specs.EntryData.{IsWritable, ItemView, item_data}
+use Rattle.duct_replay.specs.Meant.{item_line, json_item}
 use Rattle.duct_replay.specs.declared.write.Variables.{Variables}
 use Rattle.duct_replay.specs.declared.write.Variables.TheVariants.{Shown}
-use Rattle.duct_replay.proofs.RoundTrip.{entry_back}
-use Rattle.duct_replay.proofs.Shallow.{entry_plain}
+use Rattle.duct_replay.proofs.RoundTrip.{item_back}
+use Rattle.duct_replay.proofs.Shallow.{item_plain}
 
--- an entry is shallow enough to be read back
-pub read_again : (variables : Variables) (entry : EntryView) (json : Data) (text : List ℕ)
-    → json ≡ entry_data variables entry → (depth json ≤ max_depth → read text ≡ Some json)
-    → read text ≡ Some (entry_data variables entry)
-read_again variables entry json text is reads =
-    let plain = entry_plain variables entry in
-    let low : depth (entry_data variables entry) ≤ max_depth = omega (arith, plain.shallow) in
+-- an item is shallow enough to be read back
+pub read_again : (variables : Variables) (item : ItemView) (json : Data) (text : List ℕ)
+    → json ≡ item_data variables item → (depth json ≤ max_depth → read text ≡ Some json)
+    → read text ≡ Some (item_data variables item)
+read_again variables item json text is reads =
+    let plain = item_plain variables item in
+    let low : depth (item_data variables item) ≤ max_depth = omega (arith, plain.shallow) in
     reads (subst (λ json. depth json ≤ max_depth) (sym is) low) ∙ ap Some is
 
--- a line that shows all means its entry
-pub meant_again : (variables : Variables) (entry : EntryView) (text : List ℕ) → IsWritable entry
-    → variables ≡ Shown → read text ≡ Some (entry_data variables entry)
-    → line_meant text ≡ Ok entry
-unfolding line_meant
-meant_again variables entry text writable shown is =
-    ap json_meant (is ∙ ap (λ variables. Some (entry_data variables entry)) shown) ∙ entry_back entry writable
+-- a line that shows all means its item
+pub meant_again : (variables : Variables) (item : ItemView) (text : List ℕ) → IsWritable item
+    → variables ≡ Shown → read text ≡ Some (item_data variables item) → item_line text ≡ Ok item
+unfolding item_line
+meant_again variables item text writable shown is =
+    ap json_item (is ∙ ap (λ variables. Some (item_data variables item)) shown) ∙ item_back item writable
 
--- an entry has no float, so its text is known
-pub text_again : (variables : Variables) (entry : EntryView) (json : Data) (text : List ℕ)
-    → json ≡ entry_data variables entry → (has_float json ≡ false → text ≡ compact_text json)
-    → text ≡ compact_text (entry_data variables entry)
-text_again variables entry json text is writes =
-    let plain = entry_plain variables entry in
+-- an item has no float, so its text is known
+pub text_again : (variables : Variables) (item : ItemView) (json : Data) (text : List ℕ)
+    → json ≡ item_data variables item → (has_float json ≡ false → text ≡ compact_text json)
+    → text ≡ compact_text (item_data variables item)
+text_again variables item json text is writes =
+    let plain = item_plain variables item in
     writes (ap has_float is ∙ plain.exact) ∙ ap compact_text is

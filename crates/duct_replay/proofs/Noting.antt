@@ -11,7 +11,7 @@ use Rattle.std.specs.declared.result.Result.{Result}
 use mathlib.Core.Logic.{∥∥₁_map}
 use Rattle.duct_system.specs.declared.system.Said.{Said}
 use Rattle.duct_system.specs.declared.system.Said.TheVariants.{Done}
-use Rattle.duct_replay.specs.Same.{Shared, bytes_of}
+use Rattle.duct_replay.specs.Ended.{Shared, bytes_of}
 use Rattle.duct_replay.specs.Noted.{HasGiven, HasGivenAll, KeepsMore, MayGive, ByReader, ByWorker}
 
 -- known bytes lose some, and then more

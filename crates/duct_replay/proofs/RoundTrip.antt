@@ -1,4 +1,4 @@
--- What an entry is written as means that entry.
+-- What an item is written as means that item.
 use Rattle.std.proofs.Common.{◌≡◌, ℕ, suc, ◌<◌, List, [], ◌∷◌, ◌++◌, map, length, Bool, true, false, Some, None, Ok, Err, if◌then◌else◌, refl, ap, sym, ◌∙◌, arith, rules}
 use Rattle.std.specs.Prelude.{ℤ, pos, negsuc, codes}
 use Rattle.std.specs.Str.{is_utf8}
@@ -19,12 +19,8 @@ use Rattle.duct_system.specs.declared.system.Side.{Side}
 use Rattle.duct_system.specs.declared.system.Side.TheVariants as sides
 use Rattle.duct_system.specs.declared.system.Stdio.{Stdio}
 use Rattle.duct_system.specs.declared.system.Stdio.TheVariants.{Inherit, Null, End}
-use Rattle.duct_replay.specs.EntryData.{answer_data, bytes_data, entry_data, folder_data, kind_name, list_data, number_answer_data, number_data, port_data, ports_data, refused_data, request_data, result_data, side_name, stream_data, variable_data, variables_data}
-use Rattle.duct_replay.specs.ItemData.{ItemView, Noted, Ended, Read, ending_data, output_data, status_data}
-use Rattle.duct_replay.specs.ItemMeant.{ending_meant, integer_meant, item_meant, item_named, output_meant, status_named}
-use Rattle.duct_replay.specs.Meant.{all_meant, answer_meant, byte_meant, bytes_meant, canonicalize_meant, close_meant, create_meant, drain_meant, duplicate_meant, ends_answer, ends_meant, entry_meant, environment_meant, fault_meant, feed_meant, first_meant, folder_meant, kind_named, list_meant, named_meant, number_answer, number_meant, only_meant, open_read_meant, pair_meant, parent_meant, pipe_meant, port_meant, port_named, ports_meant, reader_meant, side_named, spawn_meant, spec_meant, stream_meant, stream_named, streams_meant, text_answer, text_meant, unit_answer, unit_meant, value_meant, variable_meant, variables_answer, variables_meant, words_meant}
-use Rattle.duct_replay.specs.Parsed.{◌>>=◌}
-use Rattle.duct_replay.specs.Writable.{IsWritable, AreBytes, IsSmall, IsSmallStatus}
+use Rattle.duct_replay.specs.EntryData.{AreBytes, Ended, IsSmall, IsWritable, ItemView, Noted, Read, answer_data, bytes_data, entry_data, folder_data, item_data, kind_name, list_data, number_answer_data, number_data, port_data, ports_data, request_data, result_data, side_name, status_data, stream_data, variable_data, variables_data}
+use Rattle.duct_replay.specs.Meant.{◌>>=◌, all_meant, answer_meant, byte_meant, bytes_meant, ending_meant, ends_answer, ends_meant, fault_meant, feed_meant, first_meant, folder_meant, integer_meant, item_meant, item_named, kind_named, list_meant, named_meant, number_answer, number_meant, only_meant, output_meant, pair_meant, port_meant, ports_meant, returned_as, side_named, spawn_meant, spec_meant, status_named, stream_meant, streams_meant, text_answer, text_meant, unit_answer, unit_meant, value_meant, variable_meant, variables_answer, variables_meant, words_meant}
 use Rattle.duct_replay.specs.declared.error.Refusal.{Refusal}
 use Rattle.duct_replay.specs.declared.write.Variables.{Variables}
 use Rattle.duct_replay.specs.declared.write.Variables.TheVariants.{Shown}
@@ -96,7 +92,7 @@ folder_back (Some folder) = refl
 folder_back None = refl
 
 port_back : (port : Port) → port_meant (port_data port) ≡ Ok port
-unfolding port_meant port_named
+unfolding port_meant
 port_back ports.Inherit = refl
 port_back ports.Null = refl
 port_back ports.Given = refl
@@ -108,7 +104,7 @@ unfolding ports_meant list_meant
 ports_back spec = rw (port_back spec.input, port_back spec.output, port_back spec.error)
 
 stream_back : (stream : Stdio ℕ) → stream_meant (stream_data stream) ≡ Ok stream
-unfolding stream_meant stream_named
+unfolding stream_meant
 stream_back Inherit = refl
 stream_back Null = refl
 stream_back (End end) = refl
@@ -144,155 +140,101 @@ kind_back Unsupported = refl
 kind_back OutOfMemory = refl
 kind_back Other = refl
 
-refused_back : (fault : Fault) → answer_meant (refused_data fault) ≡ Ok (Err fault)
+-- an answer whose values are read back
+returned_back : {A : Type 0} (write : A → List Data) (read : List Data → Result A Refusal)
+    → ((value : A) → read (write value) ≡ Ok value) → (answer : Result A Fault)
+    → (answer_meant (result_data write answer) >>= returned_as read) ≡ Ok answer
 unfolding answer_meant first_meant text_meant fault_meant only_meant
-refused_back fault = rw (kind_back fault.kind)
+returned_back write read back (Ok value) = rw (back value)
+returned_back write read back (Err fault) = rw (kind_back fault.kind)
 
 number_back : (answer : Result ℕ Fault) → number_answer (number_answer_data answer) ≡ Ok answer
-unfolding number_answer answer_meant first_meant text_meant only_meant number_meant fault_meant
-number_back (Ok n) = refl
-number_back (Err fault) = rw (kind_back fault.kind)
+unfolding number_answer only_meant number_meant
+number_back answer = returned_back (λ n. number_data n ∷ []) _ (λ n. refl) answer
 
 unit_back : (answer : Result (Unit {0}) Fault)
     → unit_answer (result_data (λ unit. []) answer) ≡ Ok answer
-unfolding unit_answer answer_meant first_meant text_meant only_meant unit_meant fault_meant
-unit_back (Ok unit) = refl
-unit_back (Err fault) = rw (kind_back fault.kind)
+unfolding unit_answer unit_meant
+unit_back answer = returned_back (λ unit. []) _ (λ unit. refl) answer
 
 ends_back : (answer : Result (ℕ × ℕ) Fault)
     → ends_answer (result_data (λ ends. number_data ends.0 ∷ number_data ends.1 ∷ []) answer)
     ≡ Ok answer
-unfolding ends_answer answer_meant first_meant text_meant only_meant ends_meant number_meant fault_meant
-ends_back (Ok ends) = refl
-ends_back (Err fault) = rw (kind_back fault.kind)
+unfolding ends_answer ends_meant number_meant
+ends_back answer =
+    returned_back (λ ends. number_data ends.0 ∷ number_data ends.1 ∷ []) _ (λ ends. refl) answer
 
 text_answer_back : (answer : Result (List ℕ) Fault)
     → text_answer (result_data (λ text. string text ∷ []) answer) ≡ Ok answer
-unfolding text_answer answer_meant first_meant text_meant only_meant fault_meant
-text_answer_back (Ok text) = refl
-text_answer_back (Err fault) = rw (kind_back fault.kind)
+unfolding text_answer only_meant text_meant
+text_answer_back answer = returned_back (λ text. string text ∷ []) _ (λ text. refl) answer
 
 variables_answer_back : (answer : Result Vars Fault)
     → variables_answer (result_data (λ vars. variables_data Shown vars ∷ []) answer) ≡ Ok answer
-unfolding variables_answer answer_meant first_meant text_meant only_meant fault_meant
-variables_answer_back (Ok vars) = rw (variables_back vars)
-variables_answer_back (Err fault) = rw (kind_back fault.kind)
+unfolding variables_answer only_meant
+variables_answer_back answer =
+    returned_back (λ vars. variables_data Shown vars ∷ []) _ variables_back answer
 
--- ---- entries
+-- ---- items
 
 -- what an array of these items means
-items_meant : List Data → Result EntryView Refusal
+items_meant : List Data → Result ItemView Refusal
 items_meant items =
-    first_meant items >>= λ parts. text_meant parts.0 >>= λ name. named_meant name parts.1
-
-opened : (items : List Data) → entry_meant (list_data items) ≡ items_meant items
-unfolding entry_meant items_meant
-opened items =
-    ap (λ read. read >>= first_meant >>= λ parts. text_meant parts.0 >>= λ name. named_meant name parts.1) (list_back items)
-
-spawn_back : (spec : SpecView) (streams : List (Stdio ℕ)) (answer : Result ℕ Fault)
-    → AreOrdered spec.vars → length streams ≡ 3
-    → items_meant (request_data Shown (Spawn spec streams answer) ++ answer_data Shown (Spawn spec streams answer))
-    ≡ Ok (Spawn spec streams answer)
-unfolding items_meant request_data answer_data first_meant text_meant named_meant spawn_meant
-spawn_back spec [] answer ordered three = absurd (omega arith)
-spawn_back spec (input ∷ []) answer ordered three = absurd (omega arith)
-spawn_back spec (input ∷ output ∷ []) answer ordered three = absurd (omega arith)
-spawn_back spec (input ∷ output ∷ error ∷ []) answer ordered three =
-    rw (spec_back spec ordered, streams_back input output error, number_back answer)
-spawn_back spec (input ∷ output ∷ error ∷ other ∷ more) answer ordered three =
-    absurd (omega arith)
-
-meant_back : (entry : EntryView) → IsWritable entry
-    → items_meant (request_data Shown entry ++ answer_data Shown entry) ≡ Ok entry
-unfolding items_meant request_data answer_data first_meant text_meant named_meant environment_meant pipe_meant open_read_meant create_meant duplicate_meant number_meant parent_meant canonicalize_meant feed_meant drain_meant reader_meant close_meant only_meant
-meant_back (Environment answer) writable = rw (variables_answer_back answer)
-meant_back (Pipe answer) writable = rw (ends_back answer)
-meant_back (OpenRead path answer) writable = rw (number_back answer)
-meant_back (Create path answer) writable = rw (number_back answer)
-meant_back (Duplicate end answer) writable = rw (number_back answer)
-meant_back (Parent side answer) writable = rw (side_back side, number_back answer)
-meant_back (Canonicalize path answer) writable = rw (text_answer_back answer)
-meant_back (Spawn spec streams answer) writable =
-    spawn_back spec streams answer writable.0 writable.1
-meant_back (Feed end bytes answer) writable = rw (bytes_back bytes writable, unit_back answer)
-meant_back (Drain end answer) writable = rw (unit_back answer)
-meant_back (Reader end) writable = refl
-meant_back (Close end) writable = refl
-
--- the law
-pub entry_back : (entry : EntryView) → IsWritable entry
-    → entry_meant (entry_data Shown entry) ≡ Ok entry
-unfolding entry_data
-entry_back entry writable =
-    opened (request_data Shown entry ++ answer_data Shown entry) ∙ meant_back entry writable
-
--- ---- items of a recording
-
--- what an array of these items means there
-items_item : List Data → Result ItemView Refusal
-items_item items =
     first_meant items >>= λ parts. text_meant parts.0 >>= λ name. item_named name parts.1
 
-opened_item : (items : List Data) → item_meant (list_data items) ≡ items_item items
-unfolding item_meant items_item
-opened_item items =
+opened : (items : List Data) → item_meant (list_data items) ≡ items_meant items
+unfolding item_meant items_meant
+opened items =
     ap (λ read. read >>= first_meant >>= λ parts. text_meant parts.0 >>= λ name. item_named name parts.1) (list_back items)
 
-noted : (variables : Variables) (entry : EntryView)
-    → items_meant (request_data variables entry ++ answer_data variables entry) ≡ Ok entry
-    → items_item (request_data variables entry ++ answer_data variables entry) ≡ Ok (Noted entry)
-unfolding items_meant items_item request_data first_meant text_meant item_named
-noted variables (Environment answer) is = after (λ entry. Ok (Noted entry)) is
-noted variables (Pipe answer) is = after (λ entry. Ok (Noted entry)) is
-noted variables (OpenRead path answer) is = after (λ entry. Ok (Noted entry)) is
-noted variables (Create path answer) is = after (λ entry. Ok (Noted entry)) is
-noted variables (Duplicate end answer) is = after (λ entry. Ok (Noted entry)) is
-noted variables (Parent side answer) is = after (λ entry. Ok (Noted entry)) is
-noted variables (Canonicalize path answer) is = after (λ entry. Ok (Noted entry)) is
-noted variables (Spawn spec streams answer) is = after (λ entry. Ok (Noted entry)) is
-noted variables (Feed end bytes answer) is = after (λ entry. Ok (Noted entry)) is
-noted variables (Drain end answer) is = after (λ entry. Ok (Noted entry)) is
-noted variables (Reader end) is = after (λ entry. Ok (Noted entry)) is
-noted variables (Close end) is = after (λ entry. Ok (Noted entry)) is
-
--- what means an entry is an item that is this entry
-pub noted_back : (variables : Variables) (entry : EntryView)
-    → entry_meant (entry_data variables entry) ≡ Ok entry
-    → item_meant (entry_data variables entry) ≡ Ok (Noted entry)
-unfolding entry_data
-noted_back variables entry is =
-    let items = request_data variables entry ++ answer_data variables entry in
-    opened_item items ∙ noted variables entry (sym (opened items) ∙ is)
+entry_back : (entry : EntryView) → IsWritable (Noted entry)
+    → items_meant (request_data Shown entry ++ answer_data Shown entry) ≡ Ok (Noted entry)
+unfolding items_meant request_data answer_data first_meant text_meant item_named named_meant number_meant spawn_meant feed_meant only_meant
+entry_back (Environment answer) writable = rw (variables_answer_back answer)
+entry_back (Pipe answer) writable = rw (ends_back answer)
+entry_back (OpenRead path answer) writable = rw (number_back answer)
+entry_back (Create path answer) writable = rw (number_back answer)
+entry_back (Duplicate end answer) writable = rw (number_back answer)
+entry_back (Parent side answer) writable = rw (side_back side, number_back answer)
+entry_back (Canonicalize path answer) writable = rw (text_answer_back answer)
+entry_back (Spawn spec [] answer) writable = absurd (omega (arith, writable.1))
+entry_back (Spawn spec (input ∷ []) answer) writable = absurd (omega (arith, writable.1))
+entry_back (Spawn spec (input ∷ output ∷ []) answer) writable = absurd (omega (arith, writable.1))
+entry_back (Spawn spec (input ∷ output ∷ error ∷ []) answer) writable =
+    rw (spec_back spec writable.0, streams_back input output error, number_back answer)
+entry_back (Spawn spec (input ∷ output ∷ error ∷ other ∷ more) answer) writable =
+    absurd (omega (arith, writable.1))
+entry_back (Feed end bytes answer) writable = rw (bytes_back bytes writable, unit_back answer)
+entry_back (Drain end answer) writable = rw (unit_back answer)
+entry_back (Reader end) writable = refl
+entry_back (Close end) writable = refl
 
 integer_back : (n : ℤ) → IsSmall n → integer_meant (number (of_integer n)) ≡ Ok n
 unfolding integer_meant
 integer_back (pos n) small = search rules
 integer_back (negsuc n) small = rw small.least refl
 
-ending_there : (child : ℕ) (status : ExitStatus) → IsSmallStatus status
-    → items_item (string (codes "ended") ∷ number_data child ∷ status_data status)
+ending_back : (child : ℕ) (status : ExitStatus) → IsWritable (Ended (child, status))
+    → items_meant (string (codes "ended") ∷ number_data child ∷ status_data status)
     ≡ Ok (Ended (child, status))
-unfolding items_item first_meant text_meant item_named ending_meant number_meant only_meant status_named
-ending_there child (Code code) small = rw (integer_back code small) refl
-ending_there child (Signal signal) small = rw (integer_back signal small) refl
+unfolding items_meant first_meant text_meant item_named ending_meant number_meant only_meant status_named
+ending_back child (Code code) small = rw (integer_back code small) refl
+ending_back child (Signal signal) small = rw (integer_back signal small) refl
 
-pub ending_back : (ending : ℕ × ExitStatus) → IsSmallStatus ending.1
-    → item_meant (ending_data ending) ≡ Ok (Ended ending)
-unfolding ending_data
-ending_back (child, status) small =
-    opened_item (string (codes "ended") ∷ number_data child ∷ status_data status)
-    ∙ ending_there child status small
-
-output_there : (end : ℕ) (bytes : List ℕ) → AreBytes bytes
-    → items_item (string (codes "read") ∷ number_data end ∷ bytes_data bytes ∷ [])
+output_back : (end : ℕ) (bytes : List ℕ) → AreBytes bytes
+    → items_meant (string (codes "read") ∷ number_data end ∷ bytes_data bytes ∷ [])
     ≡ Ok (Read (end, bytes))
-unfolding items_item first_meant text_meant item_named output_meant number_meant only_meant
-output_there end bytes are = rw (bytes_back bytes are) refl
+unfolding items_meant first_meant text_meant item_named output_meant number_meant only_meant
+output_back end bytes are = rw (bytes_back bytes are) refl
 
-pub output_back : (output : ℕ × List ℕ) → AreBytes output.1
-    → item_meant (output_data output) ≡ Ok (Read output)
-unfolding output_data
-output_back (end, bytes) are =
-    opened_item (string (codes "read") ∷ number_data end ∷ bytes_data bytes ∷ [])
-    ∙ output_there end bytes are
+-- the law
+pub item_back : (item : ItemView) → IsWritable item → item_meant (item_data Shown item) ≡ Ok item
+unfolding item_data entry_data
+item_back (Noted entry) writable =
+    opened (request_data Shown entry ++ answer_data Shown entry) ∙ entry_back entry writable
+item_back (Ended (child, status)) writable =
+    opened (string (codes "ended") ∷ number_data child ∷ status_data status)
+    ∙ ending_back child status writable
+item_back (Read (end, bytes)) writable =
+    opened (string (codes "read") ∷ number_data end ∷ bytes_data bytes ∷ [])
+    ∙ output_back end bytes writable

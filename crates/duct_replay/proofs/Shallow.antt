@@ -19,8 +19,7 @@ use Rattle.duct_system.specs.declared.system.Stdio.{Stdio}
 use Rattle.duct_system.specs.declared.system.Stdio.TheVariants.{Inherit, Null, End}
 use Rattle.duct_replay.specs.declared.write.Variables.{Variables}
 use Rattle.duct_replay.specs.declared.write.Variables.TheVariants.{Shown, Hidden}
-use Rattle.duct_replay.specs.EntryData.{answer_data, bytes_data, entry_data, folder_data, list_data, number_answer_data, number_data, port_data, ports_data, refused_data, request_data, result_data, side_name, stream_data, value_data, variable_data, variables_data}
-use Rattle.duct_replay.specs.ItemData.{ending_data, output_data, status_data}
+use Rattle.duct_replay.specs.EntryData.{Ended, ItemView, Noted, Read, answer_data, bytes_data, entry_data, folder_data, item_data, list_data, number_answer_data, number_data, port_data, ports_data, request_data, result_data, side_name, status_data, stream_data, value_data, variable_data, variables_data}
 
 -- it nests no deeper than this, and has no float
 pub record IsPlain (n : ℕ) (json : Data) : Type 0 where
@@ -107,16 +106,13 @@ streams_plain : (streams : List (Stdio ℕ)) → IsPlain 2 (list_data (map strea
 streams_plain streams =
     list_plain 1 (map stream_data streams) (mapped 1 stream_data (stream_plain 1) streams)
 
-refused_plain : (fault : Fault) → ArePlain 2 (refused_data fault)
-refused_plain fault = (text_plain 2 _, (text_plain 2 _, tt))
+answer_plain : {A : Type 0} (values : A → List Data) → ((value : A) → ArePlain 2 (values value))
+    → (answer : Result A Fault) → ArePlain 2 (result_data values answer)
+answer_plain values plain (Ok value) = (text_plain 2 _, plain value)
+answer_plain values plain (Err fault) = (text_plain 2 _, (text_plain 2 _, tt))
 
 number_answer_plain : (answer : Result ℕ Fault) → ArePlain 2 (number_answer_data answer)
-number_answer_plain (Ok n) = (text_plain 2 _, (number_plain 2 n, tt))
-number_answer_plain (Err fault) = refused_plain fault
-
-unit_plain : (answer : Result (Unit {0}) Fault) → ArePlain 2 (result_data (λ unit. []) answer)
-unit_plain (Ok unit) = (text_plain 2 _, tt)
-unit_plain (Err fault) = refused_plain fault
+number_answer_plain = answer_plain _ (λ n. (number_plain 2 n, tt))
 
 request_plain : (variables : Variables) (entry : EntryView)
     → ArePlain 2 (request_data variables entry)
@@ -137,32 +133,24 @@ request_plain variables (Drain end answer) = (text_plain 2 _, (number_plain 2 en
 request_plain variables (Reader end) = (text_plain 2 _, (number_plain 2 end, tt))
 request_plain variables (Close end) = (text_plain 2 _, (number_plain 2 end, tt))
 
-answer_plain : (variables : Variables) (entry : EntryView)
+returned_plain : (variables : Variables) (entry : EntryView)
     → ArePlain 2 (answer_data variables entry)
 unfolding answer_data
-answer_plain variables (Environment (Ok vars)) =
-    (text_plain 2 _, (variables_plain variables vars, tt))
-answer_plain variables (Environment (Err fault)) = refused_plain fault
-answer_plain variables (Pipe (Ok ends)) =
-    (text_plain 2 _, (number_plain 2 ends.0, (number_plain 2 ends.1, tt)))
-answer_plain variables (Pipe (Err fault)) = refused_plain fault
-answer_plain variables (OpenRead path answer) = number_answer_plain answer
-answer_plain variables (Create path answer) = number_answer_plain answer
-answer_plain variables (Duplicate end answer) = number_answer_plain answer
-answer_plain variables (Parent side answer) = number_answer_plain answer
-answer_plain variables (Canonicalize path (Ok text)) = (text_plain 2 _, (text_plain 2 text, tt))
-answer_plain variables (Canonicalize path (Err fault)) = refused_plain fault
-answer_plain variables (Spawn spec streams answer) = number_answer_plain answer
-answer_plain variables (Feed end bytes answer) = unit_plain answer
-answer_plain variables (Drain end answer) = unit_plain answer
-answer_plain variables (Reader end) = tt
-answer_plain variables (Close end) = tt
-
-pub entry_plain : (variables : Variables) (entry : EntryView)
-    → IsPlain 3 (entry_data variables entry)
-unfolding entry_data
-entry_plain variables entry =
-    list_plain 2 (request_data variables entry ++ answer_data variables entry) (joined 2 (request_data variables entry) (answer_data variables entry) (request_plain variables entry) (answer_plain variables entry))
+returned_plain variables (Environment answer) =
+    answer_plain _ (λ vars. (variables_plain variables vars, tt)) answer
+returned_plain variables (Pipe answer) =
+    answer_plain _ (λ ends. (number_plain 2 ends.0, (number_plain 2 ends.1, tt))) answer
+returned_plain variables (OpenRead path answer) = number_answer_plain answer
+returned_plain variables (Create path answer) = number_answer_plain answer
+returned_plain variables (Duplicate end answer) = number_answer_plain answer
+returned_plain variables (Parent side answer) = number_answer_plain answer
+returned_plain variables (Canonicalize path answer) =
+    answer_plain _ (λ text. (text_plain 2 text, tt)) answer
+returned_plain variables (Spawn spec streams answer) = number_answer_plain answer
+returned_plain variables (Feed end bytes answer) = answer_plain _ (λ unit. tt) answer
+returned_plain variables (Drain end answer) = answer_plain _ (λ unit. tt) answer
+returned_plain variables (Reader end) = tt
+returned_plain variables (Close end) = tt
 
 integer_plain : (n : ℕ) (code : ℤ) → IsPlain n (number (of_integer code))
 integer_plain n (pos code) = record { shallow = omega arith; exact = refl }
@@ -172,12 +160,11 @@ status_plain : (status : ExitStatus) → ArePlain 2 (status_data status)
 status_plain (Code code) = (text_plain 2 _, (integer_plain 2 code, tt))
 status_plain (Signal signal) = (text_plain 2 _, (integer_plain 2 signal, tt))
 
-pub ending_plain : (ending : ℕ × ExitStatus) → IsPlain 3 (ending_data ending)
-unfolding ending_data
-ending_plain (child, status) =
+pub item_plain : (variables : Variables) (item : ItemView) → IsPlain 3 (item_data variables item)
+unfolding item_data entry_data
+item_plain variables (Noted entry) =
+    list_plain 2 (request_data variables entry ++ answer_data variables entry) (joined 2 (request_data variables entry) (answer_data variables entry) (request_plain variables entry) (returned_plain variables entry))
+item_plain variables (Ended (child, status)) =
     list_plain 2 (string (codes "ended") ∷ number_data child ∷ status_data status) (text_plain 2 _, (number_plain 2 child, status_plain status))
-
-pub output_plain : (output : ℕ × List ℕ) → IsPlain 3 (output_data output)
-unfolding output_data
-output_plain (end, bytes) =
+item_plain variables (Read (end, bytes)) =
     list_plain 2 (string (codes "read") ∷ number_data end ∷ bytes_data bytes ∷ []) (text_plain 2 _, (number_plain 2 end, (bytes_plain bytes, tt)))

@@ -1,5 +1,5 @@
 -- The results of requests by the entry that is recorded next.
-use Rattle.std.specs.Prelude.{ℕ, Bool, true, false, Ok, Err, Some, None, ◌≡◌, ◌≢◌, ◌⊎◌, ◌+◌, ◌<◌, ◌≤◌, ◌^◌, unwrap_or}
+use Rattle.std.specs.Prelude.{ℕ, Bool, true, false, Ok, Err, Some, None, ◌≡◌, ◌≢◌, ◌⊎◌, ◌+◌, ◌<◌, ◌≤◌, ◌^◌}
 use Rattle.std.specs.Borrow.{Bor}
 use Rattle.std.specs.Option.{option_copied, option_map}
 use Rattle.std.specs.declared.option.Option.{Option}
@@ -40,40 +40,38 @@ FitsChild next answer = FitsNumber next answer × (answer ≢ Err no_memory)
 abbrev pub Fits : {T : Type 0} → Result T Fault → Type 0
 Fits answer = Unit {0}
 
--- the result that the next entry has for this request; or there is none: the next entry is not this
--- request with a result that fits
-abbrev pub Finds : {T : Type 0} → (Result T Fault → EntryView) → (Result T Fault → Type 0)
-    → Option EntryView → Option (Result T Fault) → Type 0
-Finds entry fits next (Some answer) = (next ≡ Some (entry answer)) × fits answer
-Finds {T} entry fits next None =
-    (answer : Result T Fault) → fits answer → next ≢ Some (entry answer)
+-- a request returns what the next entry has for it (true), or fails with Other where the next entry
+-- is not this request with a result that fits (false)
+abbrev pub Answers : {T : Type 0} → (Result T Fault → EntryView) → (Result T Fault → Type 0)
+    → Option EntryView → Result T Fault → Bool → Type 0
+Answers entry fits next answer true = (next ≡ Some (entry answer)) × fits answer
+Answers {T} entry fits next answer false =
+    (answer ≡ Err unrecorded) × ((other : Result T Fault) → fits other → next ≢ Some (entry other))
 
--- a request returns what the next entry has for it, and fails with Other if there is none
+-- one of the two
 abbrev pub AnswersAs : {T : Type 0} → (Result T Fault → EntryView) → (Result T Fault → Type 0)
     → Option EntryView → Result T Fault → Type 0
-AnswersAs {T} entry fits next answer =
-    (found : Option (Result T Fault))
-    × Finds entry fits next found × (answer ≡ unwrap_or found (Err unrecorded))
+AnswersAs entry fits next answer = (agrees : Bool) × Answers entry fits next answer agrees
 
--- the same of a result that was copied: the two copies are equal by this view
-abbrev pub FindsTwice : {T V : Type 0} → (Result V Fault → EntryView) → (T → V)
-    → Option EntryView → Option (Result (T × T) Fault) → Type 0
-FindsTwice entry view next None = Finds entry Fits next None
-FindsTwice entry view next (Some (Err fault)) = Finds entry Fits next (Some (Err fault))
-FindsTwice entry view next (Some (Ok (one, other))) =
-    Finds entry Fits next (Some (Ok (view one))) × (view other ≡ view one)
+-- whether an entry is the one that is recorded next
+abbrev pub IsToldRight : Bool → EntryView → Option EntryView → Type 0
+IsToldRight true entry next = next ≡ Some entry
+IsToldRight false entry next = next ≢ Some entry
+
+-- what was found for a request: a result that fits, and whether the next entry is the request with it
+pub record Finds {T : Type 0} (entry : Result T Fault → EntryView) (fits : Result T Fault → Type 0)
+    (next : Option EntryView) (answer : Result T Fault) (agrees : Bool) : Type 0 where
+  pub answers : Answers entry fits next answer agrees
+  pub has_fit : fits answer
+  pub told : IsToldRight agrees (entry answer) next
 
 -- the fault where there was no memory to compare what was recorded: it isn't the recorded one
 abbrev pub IsLost : {T : Type 0} → (Result T Fault → EntryView) → Option EntryView → Fault → Type 0
 IsLost {T} entry next fault =
     (next ≢ Some (entry (Err fault)))
     × ((fault ≡ no_memory)
-    ⊎ ((fault ≡ unrecorded) × Finds entry (λ answer. answer ≢ Err no_memory) next None))
-
--- whether an entry is the one that is recorded next
-abbrev pub IsToldRight : Bool → EntryView → Option EntryView → Type 0
-IsToldRight true entry next = next ≡ Some entry
-IsToldRight false entry next = next ≢ Some entry
+    ⊎ ((fault ≡ unrecorded)
+    × ((answer : Result T Fault) → answer ≢ Err no_memory → next ≢ Some (entry answer))))
 
 -- the entry that is recorded next as contracts see it
 abbrev pub next_view : Option (Bor Entry) → Option EntryView

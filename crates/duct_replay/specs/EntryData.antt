@@ -1,13 +1,16 @@
--- What an entry is written as: an array of the request's name, what it was made with, and its
--- answer.
-use Rattle.std.specs.Prelude.{ℕ, List, [], ◌∷◌, ◌++◌, map, codes, Some, None, Ok, Err, if◌then◌else◌}
+-- What an item of a recording is written as. An entry is an array of the request's name, what it was
+-- made with, and its answer; how a child ended and what was read of an end are arrays of a name, a
+-- number, and the exit status or the bytes.
+use Rattle.std.specs.Prelude.{◌≡◌, ◌<◌, ℕ, ℤ, pos, negsuc, int_lt, false, List, [], ◌∷◌, ◌++◌, map, length, slice_index, codes, Some, None, Ok, Err, if◌then◌else◌, ⊤}
 use Rattle.std.specs.Str.{is_utf8}
 use Rattle.std.specs.declared.option.Option.{Option}
 use Rattle.std.specs.declared.result.Result.{Result}
 use Rattle.duct_system.specs.EntryView.{EntryView, Environment, Pipe, OpenRead, Create, Duplicate, Parent, Canonicalize, Spawn, Feed, Drain, Reader, Close}
-use Rattle.duct_system.specs.SpecView.{SpecView, Vars}
+use Rattle.duct_system.specs.SpecView.{SpecView, Vars, AreOrdered}
 use Rattle.duct_system.specs.declared.spec.Port.{Port}
 use Rattle.duct_system.specs.declared.spec.Port.TheVariants as ports
+use Rattle.duct_system.specs.declared.system.ExitStatus.{ExitStatus}
+use Rattle.duct_system.specs.declared.system.ExitStatus.TheVariants.{Code, Signal}
 use Rattle.duct_system.specs.declared.system.Fault.{Fault}
 use Rattle.duct_system.specs.declared.system.Kind.{Kind}
 use Rattle.duct_system.specs.declared.system.Kind.TheVariants.{NotFound, PermissionDenied, BrokenPipe, WriteZero, InvalidInput, Unsupported, OutOfMemory, Other}
@@ -18,7 +21,9 @@ use Rattle.duct_system.specs.declared.system.Stdio.TheVariants.{Inherit, Null, E
 use Rattle.duct_replay.specs.declared.write.Variables.{Variables}
 use Rattle.duct_replay.specs.declared.write.Variables.TheVariants.{Shown, Hidden}
 use Rattle.serde_json.specs.Data.{Data, null, number, string, array, unsigned}
+use Rattle.serde_json.specs.Find.{of_integer}
 use Rattle.serde_json.specs.View.{items_of}
+use Rattle.serde_json.specs.Written.{compact_text}
 
 -- a number
 abbrev pub number_data : ℕ → Data
@@ -143,3 +148,45 @@ answer_data variables (Close end) = []
 -- an entry
 unfoldable pub entry_data : Variables → EntryView → Data
 entry_data variables entry = list_data (request_data variables entry ++ answer_data variables entry)
+
+-- ---- items
+
+-- an entry; the number of a child and how it ended; the number of an end and what was read of it
+pub data ItemView : Type 0 where
+  Noted : EntryView → ItemView
+  Ended : ℕ × ExitStatus → ItemView
+  Read : ℕ × List ℕ → ItemView
+
+-- an exit status: "code" or "signal", and the code or the signal
+abbrev pub status_data : ExitStatus → List Data
+status_data (Code code) = string (codes "code") ∷ number (of_integer code) ∷ []
+status_data (Signal signal) = string (codes "signal") ∷ number (of_integer signal) ∷ []
+
+unfoldable pub item_data : Variables → ItemView → Data
+item_data variables (Noted entry) = entry_data variables entry
+item_data variables (Ended (child, status)) =
+    list_data (string (codes "ended") ∷ number_data child ∷ status_data status)
+item_data variables (Read (end, bytes)) =
+    list_data (string (codes "read") ∷ number_data end ∷ bytes_data bytes ∷ [])
+
+-- the line of an item, with its newline
+unfoldable pub item_text : Variables → ItemView → List ℕ
+item_text variables item = compact_text (item_data variables item) ++ 10 ∷ []
+
+abbrev pub AreBytes : List ℕ → Type 0
+AreBytes bytes = (place : ℕ) → slice_index bytes place < 256
+
+-- an integer of 32 bits
+pub record IsSmall (n : ℤ) : Type 0 where
+  pub least : int_lt n (negsuc 2147483647) ≡ false
+  pub most : int_lt (pos 2147483647) n ≡ false
+
+-- what each item has, and so can be written: the variables of a spec are in order, a child has three
+-- streams, bytes are below 256, and an exit status has 32 bits
+abbrev pub IsWritable : ItemView → Type 0
+IsWritable (Noted (Spawn spec streams answer)) = AreOrdered spec.vars × (length streams ≡ 3)
+IsWritable (Noted (Feed end bytes answer)) = AreBytes bytes
+IsWritable (Noted _) = ⊤
+IsWritable (Ended (child, Code code)) = IsSmall code
+IsWritable (Ended (child, Signal signal)) = IsSmall signal
+IsWritable (Read output) = AreBytes output.1

@@ -4,22 +4,16 @@ use Rattle.std.specs.Prelude.{◌≡◌, ◌≢◌, ◌+◌, ℕ, List, [], ◌�
 use Rattle.std.specs.List.{AllByRecursion}
 use Rattle.std.specs.Str.Lines.{lines}
 use Rattle.std.specs.declared.result.Result.{Result}
-use Rattle.serde_json.specs.Written.{compact_text}
 use Rattle.duct_system.specs.EntryView.{EntryView}
 use Rattle.duct_system.specs.declared.system.ExitStatus.{ExitStatus}
 use Rattle.duct_replay.specs.RecordingView.{RecordingView}
-use Rattle.duct_replay.specs.Same.{Shared, bytes_of}
-use Rattle.duct_replay.specs.EntryData.{entry_data}
-use Rattle.duct_replay.specs.ItemData.{ItemView, Noted, Ended, Read, ending_text, output_text}
-use Rattle.duct_replay.specs.ItemMeant.{item_line}
+use Rattle.duct_replay.specs.Ended.{Shared, bytes_of}
+use Rattle.duct_replay.specs.EntryData.{ItemView, Noted, Ended, Read, item_text}
+use Rattle.duct_replay.specs.Meant.{item_line}
 use Rattle.duct_replay.specs.declared.error.LineRefusal.{LineRefusal}
 use Rattle.duct_replay.specs.declared.error.Refusal.{Refusal}
 use Rattle.duct_replay.specs.declared.error.Refusal.TheVariants.{Memory}
 use Rattle.duct_replay.specs.declared.write.Variables.{Variables}
-
--- the line of an entry, with its newline
-unfoldable pub line_text : Variables → EntryView → List ℕ
-line_text variables entry = compact_text (entry_data variables entry) ++ 10 ∷ []
 
 -- the entries; how children ended, and what was read of ends, by their numbers
 pub record RecordedView : Type 0 where
@@ -39,11 +33,18 @@ recorded_view recording = record {
   outputs = map output_view recording.outputs;
 }
 
--- the text of a recording: the lines of its entries, of endings, and of what was read
+-- its items: the entries, how children ended, and what was read
+abbrev pub recorded_items : RecordedView → List ItemView
+recorded_items recorded =
+    map Noted recorded.entries ++ (map Ended recorded.endings ++ map Read recorded.outputs)
+
+-- the text of a recording: the line of each item
 abbrev pub recorded_text : Variables → RecordedView → List ℕ
-recorded_text variables recorded =
-    flat_map (line_text variables) recorded.entries
-    ++ (flat_map ending_text recorded.endings ++ flat_map output_text recorded.outputs)
+recorded_text variables recorded = flat_map (item_text variables) (recorded_items recorded)
+
+-- the text of a journal: the line of each entry
+abbrev pub entries_text : Variables → List EntryView → List ℕ
+entries_text variables entries = flat_map (item_text variables) (map Noted entries)
 
 -- one more item in front
 abbrev pub with_item : ItemView → RecordedView → RecordedView
@@ -94,9 +95,9 @@ ReadsFirst line item =
     (place : ℕ) (rest : List ℕ) → lines_meant place (lines (line ++ rest))
     ≡ at_line place (Ok item) (lines_meant (place + 1) (lines rest))
 
--- each of some values is read as an item from its text
-abbrev pub AllRead : {A : Type 0} → (A → List ℕ) → (A → ItemView) → List A → Type 0
-AllRead text item values = AllByRecursion (λ value. ReadsFirst (text value) (item value)) values
+-- each of these items is read from its line
+abbrev pub AllRead : Variables → List ItemView → Type 0
+AllRead variables items = AllByRecursion (λ item. ReadsFirst (item_text variables item) item) items
 
 -- behind what was read comes the item that the line means
 abbrev pub AddsItem : List ℕ → RecordedView → RecordedView → Type 0

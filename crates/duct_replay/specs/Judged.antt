@@ -6,7 +6,7 @@ use Rattle.duct_system.specs.EntryView.{EntryView, Spawn}
 use Rattle.duct_system.specs.Journal.{JournalView}
 use Rattle.duct_system.specs.Trace.{fault_of}
 use Rattle.duct_system.specs.declared.error.Error.{Error}
-use Rattle.duct_system.specs.declared.error.Error.TheVariants.{System, Checked, NotUtf8, Hook, HookEnd, Deadline, Memory}
+use Rattle.duct_system.specs.declared.error.Error.TheVariants.{System, Hook, Memory}
 use Rattle.duct_system.specs.declared.system.Fault.{Fault}
 use Rattle.duct_system.specs.declared.system.Kind.{Kind}
 use Rattle.duct_system.specs.declared.system.Kind.TheVariants.{OutOfMemory}
@@ -68,14 +68,10 @@ lacks_memory entry = elim (fault_of entry) [ Some fault ↦ is_memory fault.kind
 
 -- whether a start ended for lack of memory
 abbrev pub stops_without_memory : Option Error → Bool
-stops_without_memory None = false
 stops_without_memory (Some (System fault)) = is_memory fault.kind
-stops_without_memory (Some (Checked text)) = false
-stops_without_memory (Some NotUtf8) = false
 stops_without_memory (Some (Hook fault)) = is_memory fault.kind
-stops_without_memory (Some (HookEnd place)) = false
-stops_without_memory (Some Deadline) = false
 stops_without_memory (Some Memory) = true
+stops_without_memory _ = false
 
 -- a spawn that is recorded with a lack of memory was made with another result
 abbrev pub IsLostSpawn : Option EntryView → Option EntryView → Type 0

@@ -1,17 +1,10 @@
 pub mod Answers
 pub mod Ended
 pub mod EntryData
-pub mod ItemData
-pub mod ItemMeant
 pub mod JournalMeant
 pub mod Judged
-pub mod Left
 pub mod Meant
 pub mod Noted
-pub mod Parsed
 pub mod RecordingView
 pub mod Replays
-pub mod Retraces
-pub mod Same
 pub mod Views
-pub mod Writable

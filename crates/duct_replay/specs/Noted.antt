@@ -10,7 +10,7 @@ use Rattle.duct_system.specs.declared.system.ExitStatus.{ExitStatus}
 use Rattle.duct_system.specs.declared.system.Said.{Said}
 use Rattle.duct_system.specs.declared.system.Said.TheVariants.{Done}
 use Rattle.duct_replay.specs.RecordingView.{RecordingView}
-use Rattle.duct_replay.specs.Same.{Shared, bytes_of}
+use Rattle.duct_replay.specs.Ended.{Shared, bytes_of}
 
 -- a poll of the child with this number may have returned this exit status
 abbrev pub MayEnd : (ℕ → Answer → Type 0) → ℕ → ExitStatus → Type 0

@@ -4,7 +4,7 @@ use Rattle.std.specs.Option.{option_map}
 use Rattle.std.specs.declared.option.Option.{Option}
 use Rattle.duct_system.specs.EntryView.{EntryView}
 use Rattle.duct_system.specs.declared.system.ExitStatus.{ExitStatus}
-use Rattle.duct_replay.specs.Same.{Shared, bytes_of}
+use Rattle.duct_replay.specs.Ended.{Shared, bytes_of}
 
 -- the entries; the exit statuses of children, and the bytes that ends were read to, by their
 -- numbers

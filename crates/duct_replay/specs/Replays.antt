@@ -1,5 +1,5 @@
 -- What contracts see of a replay, and how a request changes it.
-use Rattle.std.specs.Prelude.{ℕ, Bool, true, false, List, [], ◌∷◌, ◌++◌, ◌+◌, ◌-◌, ◌≡◌, ◌⊎◌, Err, Some, None, slice_get}
+use Rattle.std.specs.Prelude.{ℕ, Bool, true, false, List, [], ◌∷◌, ◌++◌, ◌+◌, ◌-◌, ◌<◌, ◌≡◌, ◌≢◌, ◌⊎◌, Err, Some, None, length, take, slice_get}
 use Rattle.std.specs.declared.option.Option.{Option}
 use Rattle.std.specs.declared.result.Result.{Result}
 use Rattle.duct_system.specs.EntryView.{EntryView}
@@ -59,3 +59,22 @@ abbrev pub MayReplay : {T : Type 0} → (Result T Fault → EntryView) → (Resu
     → ReplayView → Result T Fault → ReplayView → Type 0
 MayReplay entry fits old answer new =
     Replays entry fits old answer new ⊎ ((answer ≡ Err no_memory) × Steps old new)
+
+-- the entries before this place are the recorded ones, and the entry there is not
+pub record DiffersAt (place : ℕ) (recorded asked : List EntryView) : Type 0 where
+  pub within : place < length asked
+  pub same : take place asked ≡ take place recorded
+  pub other : slice_get asked place ≢ slice_get recorded place
+
+-- all entries are the first of the recording, or they differ first at this place
+abbrev pub Agrees : List EntryView → List EntryView → Option ℕ → Type 0
+Agrees recorded asked None = asked ≡ take (length asked) recorded
+Agrees recorded asked (Some place) = DiffersAt place recorded asked
+
+-- the same of all entries that were ever added to a journal: those that were cleared, and then
+-- those that it has
+abbrev pub Retraces : List EntryView → List EntryView → ℕ → Option ℕ → Type 0
+Retraces recorded entries added difference =
+    (cleared : List EntryView)
+    × (length cleared + length entries ≡ added)
+    × Agrees recorded (cleared ++ entries) difference

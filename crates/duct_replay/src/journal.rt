@@ -1,21 +1,19 @@
 //! A journal and a recording as text: one line for each entry, and for what a recording has beside.
-ghost use Rattle.std.specs.Prelude.{◌≡◌, ◌≢◌, ◌++◌, Ok, flat_map, map, string_bytes, Err, IfErr, IfOk, OnOk};
+ghost use Rattle.std.specs.Prelude.{◌≡◌, ◌≢◌, Ok, map, string_bytes, Err, IfErr, IfOk, OnOk};
 ghost use Rattle.std.specs.Str.Lines.{lines};
 ghost use Rattle.duct_system.specs.EntryView.{entry_view};
-ghost use Rattle.duct_replay.specs.ItemData.{Ended, Noted, Read, ending_text, output_text};
-ghost use Rattle.duct_replay.specs.ItemMeant.{item_line};
-ghost use Rattle.duct_replay.specs.JournalMeant.{AddsItem, AllRead, JournalParses, ReadsFirst, journal_meant, line_text, lines_meant, output_view, recorded_text, recorded_view, recording_meant};
+ghost use Rattle.duct_replay.specs.JournalMeant.{AddsItem, JournalParses, entries_text, journal_meant, lines_meant, recorded_text, recorded_view, recording_meant};
+ghost use Rattle.duct_replay.specs.Meant.{item_line};
 ghost use Rattle.duct_replay.specs.declared.error.Refusal.{Refusal};
 ghost use Rattle.duct_replay.specs.declared.write.Variables.{Variables};
 
 use crate::error::{LineRefusal, Refusal};
 use crate::read::{Item, read_item};
 use crate::recording::Recording;
-use crate::write::{Variables, ending_line, entry_text, output_line};
+use crate::write::{Variables, push_lines};
 use duct_system::copy::copies_of_texts;
-use duct_system::system::{Entry, ExitStatus};
+use duct_system::system::Entry;
 use std::alloc::{AllocError, Global};
-use std::sync::Arc;
 
 /// Returns the text of a journal: the line of each entry, with a newline at its end. With
 /// `Variables::Shown`, `read_journal` reads it back as these entries. Fails only at an allocation
@@ -25,13 +23,13 @@ pub fn journal_text(
     entries: &[Entry],
     variables: Variables,
 ) -> Result<String, AllocError>
-    ensures text { IfOk result (λ text. string_bytes text
-        ≡ flat_map (line_text variables) (map entry_view entries.now)) }
+    ensures text { IfOk result
+        (λ text. string_bytes text ≡ entries_text variables (map entry_view entries.now)) }
     ensures shown { variables ≡ Variables.Shown → IfOk result
         (λ text. journal_meant (string_bytes text) ≡ Ok (map entry_view entries.now)) }
 {
     let mut text = String::new(alloc);
-    push_entries(alloc, &mut text, entries, variables)?;
+    push_lines(alloc, &mut text, entries, variables)?;
     Ok(text)
 }
 
@@ -50,79 +48,10 @@ pub fn recording_text(
         (λ text. recording_meant (string_bytes text) ≡ Ok (recorded_view recording.now)) }
 {
     let mut text = String::new(alloc);
-    push_entries(alloc, &mut text, recording.entries(), variables)?;
-    push_endings(alloc, &mut text, recording.endings())?;
-    push_outputs(alloc, &mut text, recording.outputs())?;
+    push_lines(alloc, &mut text, recording.entries(), variables)?;
+    push_lines(alloc, &mut text, recording.endings(), variables)?;
+    push_lines(alloc, &mut text, recording.outputs(), variables)?;
     Ok(text)
-}
-
-// Adds the lines of entries.
-fn push_entries(
-    alloc: Global,
-    text: &mut String,
-    entries: &[Entry],
-    variables: Variables,
-) -> Result<(), AllocError>
-    ensures text { OnOk result (string_bytes text.new ≡ string_bytes text.old
-        ++ flat_map (line_text variables) (map entry_view entries.now)) }
-    ensures shown { variables ≡ Variables.Shown → OnOk result
-        (AllRead (line_text variables) Noted (map entry_view entries.now)) }
-{
-    let mut rest = entries;
-    while let Some((entry, behind)) = rest.split_first() {
-        text.push_str(ended_line(alloc, entry, variables)?.as_str())?;
-        rest = behind;
-    }
-    Ok(())
-}
-
-// Adds the lines of how children ended.
-fn push_endings(
-    alloc: Global,
-    text: &mut String,
-    endings: &[(u64, ExitStatus)],
-) -> Result<(), AllocError>
-    ensures text { OnOk result (string_bytes text.new ≡ string_bytes text.old
-        ++ flat_map ending_text endings.now) }
-    ensures read { OnOk result (AllRead ending_text Ended endings.now) }
-{
-    let mut rest = endings;
-    while let Some((ending, behind)) = rest.split_first() {
-        text.push_str(ending_line(alloc, ending.0, ending.1)?.as_str())?;
-        rest = behind;
-    }
-    Ok(())
-}
-
-// Adds the lines of what was read of ends.
-fn push_outputs(
-    alloc: Global,
-    text: &mut String,
-    outputs: &[(u64, Arc<Vec<u8>>)],
-) -> Result<(), AllocError>
-    ensures text { OnOk result (string_bytes text.new ≡ string_bytes text.old
-        ++ flat_map output_text (map output_view outputs.now)) }
-    ensures read { OnOk result (AllRead output_text Read (map output_view outputs.now)) }
-{
-    let mut rest = outputs;
-    while let Some((output, behind)) = rest.split_first() {
-        text.push_str(output_line(alloc, output.0, output.1.as_slice())?.as_str())?;
-        rest = behind;
-    }
-    Ok(())
-}
-
-// The line of an entry, with its newline.
-#[tactic(auto, unfolding(crate::specs::JournalMeant::line_text))]
-fn ended_line(alloc: Global, entry: &Entry, variables: Variables) -> Result<String, AllocError>
-    ensures text { IfOk result
-        (λ line. string_bytes line ≡ line_text variables (entry_view entry.now)) }
-    ensures shown { variables ≡ Variables.Shown → OnOk result
-        (ReadsFirst (line_text variables (entry_view entry.now)) (Noted (entry_view entry.now))) }
-{
-    let mut line = entry_text(alloc, entry, variables)?;
-    line.push('\n')?;
-    Ok(line)
 }
 
 /// Returns the entries of the text of a journal or of a recording, as `read_recording` does.
@@ -152,21 +81,18 @@ pub fn read_recording(alloc: Global, text: &str) -> Result<Recording, LineRefusa
     }
 }
 
-// Copies of the lines of a text.
 fn all_lines(alloc: Global, text: &str) -> Result<Vec<String>, AllocError>
     ensures { IfOk result (λ all. map string_bytes all.items ≡ lines text.now) }
 {
     copies_of_texts(alloc, pieces(alloc, text)?.as_slice())
 }
 
-// The lines of a text.
 fn pieces(alloc: Global, text: &str) -> Result<Vec<&str>, AllocError>
     ensures { IfOk result (λ all. map (λ piece. piece.now) all.items ≡ lines text.now) }
 {
     text.lines().collect(alloc)
 }
 
-// The recording of lines.
 fn read_lines(alloc: Global, lines: &[String]) -> Result<Recording, LineRefusal>
     ensures { JournalParses recorded_view result (lines_meant 1 (map string_bytes lines.now)) }
 {
@@ -174,32 +100,15 @@ fn read_lines(alloc: Global, lines: &[String]) -> Result<Recording, LineRefusal>
     let mut rest = lines;
     while let Some((text, behind)) = rest.split_first() {
         let line = lines.len() - behind.len();
-        push_line(alloc, &mut recording, text.as_str(), line)?;
+        push_item(alloc, &mut recording, text.as_str()).map_err(|refusal| LineRefusal {
+            line,
+            refusal,
+        })?;
         rest = behind;
     }
     Ok(recording)
 }
 
-// Adds the item of the line at this place.
-fn push_line(
-    alloc: Global,
-    recording: &mut Recording,
-    text: &str,
-    line: usize,
-) -> Result<(), LineRefusal>
-    ensures ok { OnOk result
-        (AddsItem text.now (recorded_view recording.old) (recorded_view recording.new)) }
-    ensures place { IfErr result (λ at. at.line ≡ line) }
-    ensures err { IfErr result
-        (λ at. at.refusal ≢ Refusal.Memory → item_line text.now ≡ Err at.refusal) }
-{
-    match push_item(alloc, recording, text) {
-        Ok(()) => Ok(()),
-        Err(refusal) => Err(LineRefusal { line, refusal }),
-    }
-}
-
-// Adds the item of a line.
 fn push_item(alloc: Global, recording: &mut Recording, line: &str) -> Result<(), Refusal>
     ensures ok { OnOk result
         (AddsItem line.now (recorded_view recording.old) (recorded_view recording.new)) }

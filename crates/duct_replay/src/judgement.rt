@@ -124,7 +124,6 @@ fn is_same(alloc: Global, one: &Entry, other: &Entry) -> Result<bool, AllocError
     Ok(text == entry_text(alloc, other, Variables::Shown)?)
 }
 
-// Returns the entry at a place, if there is one.
 fn entry_at(entries: &[Entry], place: usize) -> Option<&Entry>
     ensures { next_view result ≡ slice_get (map entry_view entries.now) place }
 {
@@ -145,7 +144,6 @@ fn verdict_at(place: usize, recorded: &[Entry], made: &[Entry]) -> Verdict
     }
 }
 
-// Returns whether a kind of fault is a lack of memory.
 fn is_memory(kind: Kind) -> bool
     ensures { result ≡ is_memory kind }
 {
@@ -159,15 +157,10 @@ fn stops_without_memory(error: &Option<Error>) -> bool
     match error {
         Some(Error::System(fault)) | Some(Error::Hook(fault)) => is_memory(fault.kind),
         Some(Error::Memory) => true,
-        Some(Error::Checked(_))
-        | Some(Error::NotUtf8)
-        | Some(Error::HookEnd(_))
-        | Some(Error::Deadline)
-        | None => false,
+        _ => false,
     }
 }
 
-// Returns whether the request of one of these entries was refused for lack of memory.
 fn any_lacks_memory(entries: &[Entry]) -> bool
     ensures { result ≡ list_any (λ entry. lacks_memory (entry_view entry)) entries.now }
 {
@@ -189,18 +182,7 @@ fn lacks_memory(entry: &Entry) -> bool
         | Entry::Spawn(_, _, Err(fault))
         | Entry::Feed(_, _, Err(fault))
         | Entry::Drain(_, Err(fault)) => is_memory(fault.kind),
-        Entry::Environment(Ok(_))
-        | Entry::Pipe(Ok(_))
-        | Entry::OpenRead(_, Ok(_))
-        | Entry::Create(_, Ok(_))
-        | Entry::Duplicate(_, Ok(_))
-        | Entry::Parent(_, Ok(_))
-        | Entry::Canonicalize(_, Ok(_))
-        | Entry::Spawn(_, _, Ok(_))
-        | Entry::Feed(_, _, Ok(_))
-        | Entry::Drain(_, Ok(_))
-        | Entry::Reader(_)
-        | Entry::Close(_) => false,
+        _ => false,
     }
 }
 

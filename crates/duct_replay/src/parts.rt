@@ -2,8 +2,7 @@
 ghost use Rattle.std.specs.Prelude.{[], map, string_bytes};
 ghost use Rattle.std.specs.Option.{option_map};
 ghost use Rattle.duct_system.specs.SpecView.{pair_text};
-ghost use Rattle.duct_replay.specs.Meant.{text_meant, number_meant, list_meant, first_meant, only_meant, kind_named, fault_meant, answer_meant, unit_meant, ends_meant, unit_answer, number_answer, ends_answer, text_answer, value_meant, pair_meant, variable_meant, variables_meant, variables_answer, byte_meant, bytes_meant, folder_meant, port_named, port_meant, stream_named, stream_meant, ports_meant, streams_meant, side_named, all_meant, words_meant};
-ghost use Rattle.duct_replay.specs.Parsed.{ParsesAs, returned_view};
+ghost use Rattle.duct_replay.specs.Meant.{text_meant, number_meant, list_meant, first_meant, only_meant, kind_named, fault_meant, answer_meant, unit_meant, ends_meant, unit_answer, number_answer, ends_answer, text_answer, value_meant, pair_meant, variable_meant, variables_meant, variables_answer, byte_meant, bytes_meant, folder_meant, port_meant, stream_meant, ports_meant, streams_meant, side_named, all_meant, words_meant, ParsesAs, returned_view};
 ghost use Rattle.serde_json.specs.View.{view};
 
 use crate::error::Refusal;
@@ -14,7 +13,6 @@ use std::alloc::Global;
 
 // ---- values
 
-/// The text of a value.
 #[tactic(auto, unfolding(crate::specs::Meant::text_meant))]
 pub(crate) fn text(value: &Value) -> Result<&str, Refusal>
     ensures { ParsesAs (λ text. text.now) result (text_meant (view value.now)) }
@@ -22,14 +20,12 @@ pub(crate) fn text(value: &Value) -> Result<&str, Refusal>
     value.as_str().ok_or(Refusal::NotEntry)
 }
 
-/// A copy of the text of a value.
 pub(crate) fn text_copy(alloc: Global, value: &Value) -> Result<String, Refusal>
     ensures { ParsesAs string_bytes result (text_meant (view value.now)) }
 {
     Ok(String::from_str(alloc, text(value)?)?)
 }
 
-/// The number that a value is.
 #[tactic(auto, unfolding(crate::specs::Meant::number_meant))]
 pub(crate) fn number(value: &Value) -> Result<u64, Refusal>
     ensures { ParsesAs (λ n. n) result (number_meant (view value.now)) }
@@ -37,7 +33,6 @@ pub(crate) fn number(value: &Value) -> Result<u64, Refusal>
     value.as_u64().ok_or(Refusal::NotEntry)
 }
 
-/// The items of an array.
 #[tactic(auto, using(crate::proofs::Lists::list_of_items), unfolding(crate::specs::Meant::list_meant))]
 pub(crate) fn list(value: &Value) -> Result<&[Value], Refusal>
     ensures { ParsesAs (λ items. map view items.now) result (list_meant (view value.now)) }
@@ -70,7 +65,6 @@ pub(crate) fn only(items: &[Value]) -> Result<&Value, Refusal>
 
 // ---- answers
 
-// The kind of fault with this name.
 #[tactic(auto, unfolding(crate::specs::Meant::kind_named))]
 fn kind_named(name: &str) -> Result<Kind, Refusal>
     ensures { ParsesAs (λ kind. kind) result (kind_named name.now) }
@@ -111,7 +105,6 @@ fn answer(items: &[Value]) -> Result<Result<&[Value], Fault>, Refusal>
     }
 }
 
-/// An answer that returned nothing.
 #[tactic(auto, unfolding(crate::specs::Meant::unit_answer, crate::specs::Meant::unit_meant))]
 pub(crate) fn unit_answer(items: &[Value]) -> Result<Result<(), Fault>, Refusal>
     ensures { ParsesAs (λ answer. answer) result (unit_answer (map view items.now)) }
@@ -123,7 +116,6 @@ pub(crate) fn unit_answer(items: &[Value]) -> Result<Result<(), Fault>, Refusal>
     }
 }
 
-/// An answer that returned a number.
 #[tactic(auto, unfolding(crate::specs::Meant::number_answer))]
 pub(crate) fn number_answer(items: &[Value]) -> Result<Result<u64, Fault>, Refusal>
     ensures { ParsesAs (λ answer. answer) result (number_answer (map view items.now)) }
@@ -146,7 +138,6 @@ pub(crate) fn ends_answer(items: &[Value]) -> Result<Result<(u64, u64), Fault>, 
     }
 }
 
-/// An answer that returned a text.
 #[tactic(auto, unfolding(crate::specs::Meant::text_answer))]
 pub(crate) fn text_answer(alloc: Global, items: &[Value]) -> Result<Result<String, Fault>, Refusal>
     ensures { ParsesAs (returned_view string_bytes) result (text_answer (map view items.now)) }
@@ -157,7 +148,6 @@ pub(crate) fn text_answer(alloc: Global, items: &[Value]) -> Result<Result<Strin
     }
 }
 
-/// An answer that returned variables.
 #[tactic(auto, unfolding(crate::specs::Meant::variables_answer))]
 pub(crate) fn variables_answer(
     alloc: Global,
@@ -174,22 +164,13 @@ pub(crate) fn variables_answer(
 
 // ---- variables, words, bytes
 
-/// Names with their values.
 #[tactic(auto, unfolding(crate::specs::Meant::variables_meant))]
 pub(crate) fn variables(alloc: Global, value: &Value) -> Result<Vec<(String, String)>, Refusal>
     ensures { ParsesAs (λ pairs. map pair_text pairs.items) result
         (variables_meant (view value.now)) }
 {
-    variables_of(alloc, list(value)?)
-}
-
-// The variables that these values are.
-fn variables_of(alloc: Global, values: &[Value]) -> Result<Vec<(String, String)>, Refusal>
-    ensures { ParsesAs (λ pairs. map pair_text pairs.items) result
-        (all_meant variable_meant (map view values.now)) }
-{
     let mut pairs = Vec::new(alloc);
-    let mut rest = values;
+    let mut rest = list(value)?;
     while let Some((value, behind)) = rest.split_first() {
         pairs.push(variable(alloc, value)?)?;
         rest = behind;
@@ -197,7 +178,6 @@ fn variables_of(alloc: Global, values: &[Value]) -> Result<Vec<(String, String)>
     Ok(pairs)
 }
 
-// A name with its value.
 #[tactic(auto, unfolding(crate::specs::Meant::variable_meant, crate::specs::Meant::pair_meant))]
 fn variable(alloc: Global, value: &Value) -> Result<(String, String), Refusal>
     ensures { ParsesAs pair_text result (variable_meant (view value.now)) }
@@ -208,7 +188,6 @@ fn variable(alloc: Global, value: &Value) -> Result<(String, String), Refusal>
     }
 }
 
-// The value of a variable.
 #[tactic(auto, unfolding(crate::specs::Meant::value_meant))]
 fn variable_value(alloc: Global, value: &Value) -> Result<String, Refusal>
     ensures { ParsesAs string_bytes result (value_meant (view value.now)) }
@@ -216,28 +195,17 @@ fn variable_value(alloc: Global, value: &Value) -> Result<String, Refusal>
     match value {
         Value::Null => Err(Refusal::Hidden),
         Value::String(text) => Ok(String::from_str(alloc, text.as_str())?),
-        Value::Bool(_) | Value::Number(_) | Value::Array(_) | Value::Object(_) => {
-            Err(Refusal::NotEntry)
-        }
+        _ => Err(Refusal::NotEntry),
     }
 }
 
-/// Words.
 #[tactic(auto, unfolding(crate::specs::Meant::words_meant))]
 pub(crate) fn words(alloc: Global, value: &Value) -> Result<Vec<String>, Refusal>
     ensures { ParsesAs (λ words. map string_bytes words.items) result
         (words_meant (view value.now)) }
 {
-    words_of(alloc, list(value)?)
-}
-
-// The words of these values.
-fn words_of(alloc: Global, values: &[Value]) -> Result<Vec<String>, Refusal>
-    ensures { ParsesAs (λ words. map string_bytes words.items) result
-        (all_meant text_meant (map view values.now)) }
-{
     let mut words = Vec::new(alloc);
-    let mut rest = values;
+    let mut rest = list(value)?;
     while let Some((value, behind)) = rest.split_first() {
         words.push(text_copy(alloc, value)?)?;
         rest = behind;
@@ -256,7 +224,6 @@ pub(crate) fn bytes(alloc: Global, value: &Value) -> Result<Vec<u8>, Refusal>
     }
 }
 
-// Bytes that are written as numbers.
 fn numbered_bytes(alloc: Global, values: &[Value]) -> Result<Vec<u8>, Refusal>
     ensures { ParsesAs (λ bytes. bytes.items) result (all_meant byte_meant (map view values.now)) }
 {
@@ -269,7 +236,6 @@ fn numbered_bytes(alloc: Global, values: &[Value]) -> Result<Vec<u8>, Refusal>
     Ok(bytes)
 }
 
-// A number below 256.
 #[tactic(auto, unfolding(crate::specs::Meant::byte_meant))]
 fn byte(value: &Value) -> Result<u8, Refusal>
     ensures { ParsesAs (λ byte. byte) result (byte_meant (view value.now)) }
@@ -292,13 +258,10 @@ pub(crate) fn folder(alloc: Global, value: &Value) -> Result<Option<String>, Ref
     match value {
         Value::Null => Ok(None),
         Value::String(text) => Ok(Some(String::from_str(alloc, text.as_str())?)),
-        Value::Bool(_) | Value::Number(_) | Value::Array(_) | Value::Object(_) => {
-            Err(Refusal::NotEntry)
-        }
+        _ => Err(Refusal::NotEntry),
     }
 }
 
-/// The three ports.
 #[tactic(auto, unfolding(crate::specs::Meant::ports_meant))]
 pub(crate) fn ports(value: &Value) -> Result<(Port, Port, Port), Refusal>
     ensures { ParsesAs (λ ports. ports) result (ports_meant (view value.now)) }
@@ -310,7 +273,7 @@ pub(crate) fn ports(value: &Value) -> Result<(Port, Port, Port), Refusal>
 }
 
 // A port: its name, or the place of an end.
-#[tactic(auto, unfolding(crate::specs::Meant::port_meant, crate::specs::Meant::port_named, crate::specs::Meant::number_meant))]
+#[tactic(auto, unfolding(crate::specs::Meant::port_meant, crate::specs::Meant::number_meant))]
 fn port(value: &Value) -> Result<Port, Refusal>
     ensures { ParsesAs (λ port. port) result (port_meant (view value.now)) }
 {
@@ -322,11 +285,10 @@ fn port(value: &Value) -> Result<Port, Refusal>
             _ => Err(Refusal::NotEntry),
         },
         Value::Number(_) => Ok(Port::Place(number(value)? as usize)),
-        Value::Null | Value::Bool(_) | Value::Array(_) | Value::Object(_) => Err(Refusal::NotEntry),
+        _ => Err(Refusal::NotEntry),
     }
 }
 
-/// The three streams.
 #[tactic(auto, unfolding(crate::specs::Meant::streams_meant))]
 pub(crate) fn streams(value: &Value) -> Result<(Stdio<u64>, Stdio<u64>, Stdio<u64>), Refusal>
     ensures { ParsesAs (λ streams. streams) result (streams_meant (view value.now)) }
@@ -338,7 +300,7 @@ pub(crate) fn streams(value: &Value) -> Result<(Stdio<u64>, Stdio<u64>, Stdio<u6
 }
 
 // A stream: its name, or the number of its end.
-#[tactic(auto, unfolding(crate::specs::Meant::stream_meant, crate::specs::Meant::stream_named, crate::specs::Meant::number_meant))]
+#[tactic(auto, unfolding(crate::specs::Meant::stream_meant, crate::specs::Meant::number_meant))]
 fn stream(value: &Value) -> Result<Stdio<u64>, Refusal>
     ensures { ParsesAs (λ stream. stream) result (stream_meant (view value.now)) }
 {
@@ -349,7 +311,7 @@ fn stream(value: &Value) -> Result<Stdio<u64>, Refusal>
             _ => Err(Refusal::NotEntry),
         },
         Value::Number(_) => Ok(Stdio::End(number(value)?)),
-        Value::Null | Value::Bool(_) | Value::Array(_) | Value::Object(_) => Err(Refusal::NotEntry),
+        _ => Err(Refusal::NotEntry),
     }
 }
 

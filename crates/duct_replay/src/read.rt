@@ -2,9 +2,7 @@
 ghost use Rattle.std.specs.Prelude.{◌≡◌, map, OnOk};
 ghost use Rattle.duct_system.specs.EntryView.{entry_view};
 ghost use Rattle.duct_system.specs.SpecView.{pair_text, with_var};
-ghost use Rattle.duct_replay.specs.ItemMeant.{ending_meant, integer_meant, item_line, item_meant, item_named, item_view, output_meant, status_named};
-ghost use Rattle.duct_replay.specs.Meant.{close_meant, create_meant, canonicalize_meant, drain_meant, duplicate_meant, entry_meant, environment_meant, feed_meant, line_meant, named_meant, open_read_meant, parent_meant, pipe_meant, reader_meant, set_in_turn, spawn_meant, spec_meant};
-ghost use Rattle.duct_replay.specs.Parsed.{ParsesAs};
+ghost use Rattle.duct_replay.specs.Meant.{ParsesAs, ending_meant, feed_meant, integer_meant, item_line, item_meant, item_named, item_view, line_meant, named_meant, output_meant, set_in_turn, spawn_meant, spec_meant, status_named};
 ghost use Rattle.serde_json.specs.View.{view};
 
 use crate::error::Refusal;
@@ -29,24 +27,102 @@ use std::sync::Arc;
 pub fn read_entry(alloc: Global, line: &str) -> Result<Entry, Refusal>
     ensures { ParsesAs entry_view result (line_meant line.now) }
 {
+    match read_item(alloc, line)? {
+        Item::Entry(entry) => Ok(entry),
+        Item::Ended(_, _) | Item::Read(_, _) => Err(Refusal::NotEntry),
+    }
+}
+
+/// What a line of a recording says.
+#[derive(Drop)]
+pub(crate) enum Item {
+    /// An entry of the journal.
+    Entry(Entry),
+    /// The number of a child, and how it ended.
+    Ended(u64, ExitStatus),
+    /// The number of an end, and what was read of it.
+    Read(u64, Arc<Vec<u8>>),
+}
+
+/// Returns the item of a line. Fails as `read_entry` does.
+#[tactic(auto, unfolding(crate::specs::Meant::item_line))]
+pub(crate) fn read_item(alloc: Global, line: &str) -> Result<Item, Refusal>
+    ensures { ParsesAs item_view result (item_line line.now) }
+{
     match Value::from_str(alloc, line) {
-        Ok(value) => entry(alloc, &value),
+        Ok(value) => item_of(alloc, &value),
         Err(error) if error.is_memory() => Err(Refusal::Memory),
         Err(_) => Err(Refusal::NotJson),
     }
 }
 
-// The entry that was written as this value.
-#[tactic(auto, unfolding(crate::specs::Meant::entry_meant))]
-fn entry(alloc: Global, line: &Value) -> Result<Entry, Refusal>
-    ensures { ParsesAs entry_view result (entry_meant (view line.now)) }
+// The item that was written as this value.
+#[tactic(auto, unfolding(crate::specs::Meant::item_meant))]
+fn item_of(alloc: Global, line: &Value) -> Result<Item, Refusal>
+    ensures { ParsesAs item_view result (item_meant (view line.now)) }
 {
     let (name, items) = first(list(line)?)?;
-    named(alloc, text(name)?, items)
+    item_named(alloc, text(name)?, items)
 }
 
+#[tactic(auto, unfolding(crate::specs::Meant::item_named))]
+fn item_named(alloc: Global, name: &str, items: &[Value]) -> Result<Item, Refusal>
+    ensures { ParsesAs item_view result (item_named name.now (map view items.now)) }
+{
+    match name {
+        "ended" => {
+            let (child, status) = ending(items)?;
+            Ok(Item::Ended(child, status))
+        }
+        "read" => {
+            let (end, bytes) = output(alloc, items)?;
+            Ok(Item::Read(end, Arc::new(alloc, bytes)?))
+        }
+        _ => Ok(Item::Entry(named(alloc, name, items)?)),
+    }
+}
+
+#[tactic(auto, unfolding(crate::specs::Meant::ending_meant, crate::specs::Meant::status_named))]
+fn ending(items: &[Value]) -> Result<(u64, ExitStatus), Refusal>
+    ensures { ParsesAs (λ ending. ending) result (ending_meant (map view items.now)) }
+{
+    let (child, items) = first(items)?;
+    let (name, items) = first(items)?;
+    let child = number(child)?;
+    let name = text(name)?;
+    let code = integer(only(items)?)?;
+    match name {
+        "code" => Ok((child, ExitStatus::Code(code))),
+        "signal" => Ok((child, ExitStatus::Signal(code))),
+        _ => Err(Refusal::NotEntry),
+    }
+}
+
+#[tactic(auto, unfolding(crate::specs::Meant::output_meant))]
+fn output(alloc: Global, items: &[Value]) -> Result<(u64, Vec<u8>), Refusal>
+    ensures { ParsesAs (λ output. (output.0, output.1.items)) result
+        (output_meant (map view items.now)) }
+{
+    let (end, items) = first(items)?;
+    let end = number(end)?;
+    Ok((end, bytes(alloc, only(items)?)?))
+}
+
+// The integer of 32 bits that a value is.
+#[tactic(auto, unfolding(crate::specs::Meant::integer_meant))]
+fn integer(value: &Value) -> Result<i32, Refusal>
+    ensures { ParsesAs (λ n. n) result (integer_meant (view value.now)) }
+{
+    match value.as_i64() {
+        Some(n) if -2147483648 <= n && n <= 2147483647 => Ok(n as i32),
+        _ => Err(Refusal::NotEntry),
+    }
+}
+
+// ---- entries
+
 // The entry of the request with this name.
-#[tactic(auto, unfolding(crate::specs::Meant::named_meant, crate::specs::Meant::environment_meant, crate::specs::Meant::pipe_meant, crate::specs::Meant::open_read_meant, crate::specs::Meant::create_meant, crate::specs::Meant::duplicate_meant, crate::specs::Meant::parent_meant, crate::specs::Meant::canonicalize_meant, crate::specs::Meant::drain_meant, crate::specs::Meant::reader_meant, crate::specs::Meant::close_meant))]
+#[tactic(auto, unfolding(crate::specs::Meant::named_meant))]
 fn named(alloc: Global, name: &str, items: &[Value]) -> Result<Entry, Refusal>
     ensures { ParsesAs entry_view result (named_meant name.now (map view items.now)) }
 {
@@ -55,35 +131,29 @@ fn named(alloc: Global, name: &str, items: &[Value]) -> Result<Entry, Refusal>
         "pipe" => Ok(Entry::Pipe(ends_answer(items)?)),
         "open_read" => {
             let (path, answer) = first(items)?;
-            let path = text_copy(alloc, path)?;
-            Ok(Entry::OpenRead(path, number_answer(answer)?))
+            Ok(Entry::OpenRead(text_copy(alloc, path)?, number_answer(answer)?))
         }
         "create" => {
             let (path, answer) = first(items)?;
-            let path = text_copy(alloc, path)?;
-            Ok(Entry::Create(path, number_answer(answer)?))
+            Ok(Entry::Create(text_copy(alloc, path)?, number_answer(answer)?))
         }
         "duplicate" => {
             let (end, answer) = first(items)?;
-            let end = number(end)?;
-            Ok(Entry::Duplicate(end, number_answer(answer)?))
+            Ok(Entry::Duplicate(number(end)?, number_answer(answer)?))
         }
         "parent" => {
             let (side, answer) = first(items)?;
-            let side = side_named(text(side)?)?;
-            Ok(Entry::Parent(side, number_answer(answer)?))
+            Ok(Entry::Parent(side_named(text(side)?)?, number_answer(answer)?))
         }
         "canonicalize" => {
             let (path, answer) = first(items)?;
-            let path = text_copy(alloc, path)?;
-            Ok(Entry::Canonicalize(path, text_answer(alloc, answer)?))
+            Ok(Entry::Canonicalize(text_copy(alloc, path)?, text_answer(alloc, answer)?))
         }
         "spawn" => spawn(alloc, items),
         "feed" => feed(alloc, items),
         "drain" => {
             let (end, answer) = first(items)?;
-            let end = number(end)?;
-            Ok(Entry::Drain(end, unit_answer(answer)?))
+            Ok(Entry::Drain(number(end)?, unit_answer(answer)?))
         }
         "reader" => Ok(Entry::Reader(number(only(items)?)?)),
         "close" => Ok(Entry::Close(number(only(items)?)?)),
@@ -117,7 +187,6 @@ fn spawn(alloc: Global, items: &[Value]) -> Result<Entry, Refusal>
     Ok(Entry::Spawn(spec, [input, output, error], number_answer(answer)?))
 }
 
-// The spec with these parts.
 #[tactic(auto, unfolding(crate::specs::Meant::spec_meant))]
 fn spec(
     alloc: Global,
@@ -129,11 +198,10 @@ fn spec(
     ensures { ParsesAs (λ spec. spec) result
         (spec_meant (view said.now) (view place.now) (view vars.now) (view connected.now)) }
 {
-    let words = words(alloc, said)?;
+    let words = Arc::new(alloc, words(alloc, said)?)?;
     let folder = folder(alloc, place)?;
     let vars = variables(alloc, vars)?;
     let (input, output, error) = ports(connected)?;
-    let words = Arc::new(alloc, words)?;
     let mut spec = spec_of(words, folder, BTreeMap::new(alloc), input, output, error);
     set_variables(&mut spec, vars.as_slice())?;
     Ok(spec)
@@ -152,101 +220,4 @@ fn set_variables(spec: &mut CommandSpec, vars: &[(String, String)]) -> Result<()
         }
     }
     Ok(())
-}
-
-// ---- items of a recording
-
-/// What a line of a recording says.
-#[derive(Drop)]
-pub(crate) enum Item {
-    /// An entry of the journal.
-    Entry(Entry),
-    /// The number of a child, and how it ended.
-    Ended(u64, ExitStatus),
-    /// The number of an end, and what was read of it.
-    Read(u64, Arc<Vec<u8>>),
-}
-
-/// Returns the item of a line. Fails as `read_entry` does.
-#[tactic(auto, unfolding(crate::specs::ItemMeant::item_line))]
-pub(crate) fn read_item(alloc: Global, line: &str) -> Result<Item, Refusal>
-    ensures { ParsesAs item_view result (item_line line.now) }
-{
-    match Value::from_str(alloc, line) {
-        Ok(value) => item_of(alloc, &value),
-        Err(error) if error.is_memory() => Err(Refusal::Memory),
-        Err(_) => Err(Refusal::NotJson),
-    }
-}
-
-// The item that was written as this value.
-#[tactic(auto, unfolding(crate::specs::ItemMeant::item_meant))]
-fn item_of(alloc: Global, line: &Value) -> Result<Item, Refusal>
-    ensures { ParsesAs item_view result (item_meant (view line.now)) }
-{
-    let (name, items) = first(list(line)?)?;
-    item_named(alloc, text(name)?, items)
-}
-
-// The item with this name.
-#[tactic(auto, unfolding(crate::specs::ItemMeant::item_named))]
-fn item_named(alloc: Global, name: &str, items: &[Value]) -> Result<Item, Refusal>
-    ensures { ParsesAs item_view result (item_named name.now (map view items.now)) }
-{
-    match name {
-        "ended" => {
-            let (child, status) = ending(items)?;
-            Ok(Item::Ended(child, status))
-        }
-        "read" => {
-            let (end, bytes) = output(alloc, items)?;
-            Ok(Item::Read(end, Arc::new(alloc, bytes)?))
-        }
-        _ => Ok(Item::Entry(named(alloc, name, items)?)),
-    }
-}
-
-// The number of a child and how it ended.
-#[tactic(auto, unfolding(crate::specs::ItemMeant::ending_meant, crate::specs::ItemMeant::status_named))]
-fn ending(items: &[Value]) -> Result<(u64, ExitStatus), Refusal>
-    ensures { ParsesAs (λ ending. ending) result (ending_meant (map view items.now)) }
-{
-    let (child, items) = first(items)?;
-    let (name, items) = first(items)?;
-    let child = number(child)?;
-    let name = text(name)?;
-    let code = integer(only(items)?)?;
-    match name {
-        "code" => Ok((child, ExitStatus::Code(code))),
-        "signal" => Ok((child, ExitStatus::Signal(code))),
-        _ => Err(Refusal::NotEntry),
-    }
-}
-
-// The number of an end and what was read of it.
-#[tactic(auto, unfolding(crate::specs::ItemMeant::output_meant))]
-fn output(alloc: Global, items: &[Value]) -> Result<(u64, Vec<u8>), Refusal>
-    ensures { ParsesAs (λ output. (output.0, output.1.items)) result
-        (output_meant (map view items.now)) }
-{
-    let (end, items) = first(items)?;
-    let end = number(end)?;
-    Ok((end, bytes(alloc, only(items)?)?))
-}
-
-// The integer of 32 bits that a value is.
-#[tactic(auto, unfolding(crate::specs::ItemMeant::integer_meant))]
-fn integer(value: &Value) -> Result<i32, Refusal>
-    ensures { ParsesAs (λ n. n) result (integer_meant (view value.now)) }
-{
-    match value.as_i64() {
-        Some(n) => {
-            if n < -2147483648 || 2147483647 < n {
-                Err(Refusal::NotEntry)
-            } else {
-                Ok(n as i32)
-            }
-        }
-        None => Err(Refusal::NotEntry),
-    }
 }

@@ -1,14 +1,12 @@
 //! The children, workers and readers of a recorder, and what they note while its system runs: once
 //! for each child and each end.
 ghost use Rattle.std.specs.Prelude.{◌≡◌, Ok, Some, IfOk, OnErr};
-ghost use Rattle.std.specs.List.{All};
 ghost use Rattle.duct_replay.specs.Noted.{MayEnd, MayGive, HasGiven, HasGivenAll, KeepsMore};
-ghost use Rattle.duct_replay.specs.Same.{bytes_of};
+ghost use Rattle.duct_replay.specs.Ended.{bytes_of};
 ghost use Rattle.std.specs.Io.{ReadsAtMost};
 ghost use Rattle.std.specs.Io.KnownBytes.{ReadConsumes};
 ghost use Rattle.std.specs.Option.{ForSome};
 
-use crate::recording::Recording;
 use duct_system::system::{Child, ExitStatus, Fault, Job, Numbered, Said, System};
 use std::alloc::{AllocError, Global};
 use std::io;
@@ -19,8 +17,8 @@ use std::sync::{Arc, OnceLock};
 /// How a child ended: one of its polls returned this exit status.
 #[derive(Drop)]
 pub(crate) struct Ending<C: Child> {
-    number: u64,
-    status: ExitStatus,
+    pub(crate) number: u64,
+    pub(crate) status: ExitStatus,
     child: PhantomData<C>,
     ghost told: { ∥ MayEnd C.may_answer number status ∥₁ },
 }
@@ -28,7 +26,7 @@ pub(crate) struct Ending<C: Child> {
 /// What was read of an end, up to EOF.
 #[derive(Drop)]
 pub(crate) struct Output<S: System> {
-    number: u64,
+    pub(crate) number: u64,
     bytes: Arc<Vec<u8>>,
     system: PhantomData<S>,
     ghost told: { ∥ MayGive S.may_read S.Reader.remaining S.Drain.may_say number
@@ -36,8 +34,7 @@ pub(crate) struct Output<S: System> {
 }
 
 impl<S: System> Output<S> {
-    // Returns one more owner of the bytes.
-    fn shared(&self) -> Result<Arc<Vec<u8>>, AllocError>
+    pub(crate) fn shared(&self) -> Result<Arc<Vec<u8>>, AllocError>
         ensures { IfOk result (λ bytes. ∥ MayGive S.may_read S.Reader.remaining S.Drain.may_say
             self.now.number (bytes_of bytes) ∥₁) }
     {
@@ -85,57 +82,12 @@ fn note_output<S: System>(note: &Note<Output<S>>, number: u64, bytes: Arc<Vec<u8
     });
 }
 
-/// Adds the endings that are noted to a recording.
-pub(crate) fn record_endings<C: Child>(
-    notes: &Notes<Ending<C>>,
-    recording: &mut Recording,
-) -> Result<(), AllocError>
-    ensures rest { recording.new ≡ record recording.old { endings = recording.new.endings } }
-    ensures told { All (λ pair. ∥ MayEnd C.may_answer pair.0 pair.1 ∥₁) recording.old.endings
-        → All (λ pair. ∥ MayEnd C.may_answer pair.0 pair.1 ∥₁) recording.new.endings }
-{
-    for (_, note) in notes {
-        if let Some(ending) = note.get() {
-            recording.ends_with(ending.number, ending.status)?;
-        }
-    }
-    Ok(())
-}
-
-/// Adds the outputs that are noted to a recording.
-pub(crate) fn record_outputs<S: System>(
-    notes: &Notes<Output<S>>,
-    recording: &mut Recording,
-) -> Result<(), AllocError>
-    ensures rest { recording.new ≡ record recording.old { outputs = recording.new.outputs } }
-    ensures told { All (λ pair. ∥ MayGive S.may_read S.Reader.remaining S.Drain.may_say pair.0
-        (bytes_of pair.1) ∥₁) recording.old.outputs
-        → All (λ pair. ∥ MayGive S.may_read S.Reader.remaining S.Drain.may_say pair.0
-        (bytes_of pair.1) ∥₁) recording.new.outputs }
-{
-    for (_, note) in notes {
-        if let Some(output) = note.get() {
-            recording.reads(output.number, output.shared()?)?;
-        }
-    }
-    Ok(())
-}
-
 /// A child that a recorder started. It is the child of the system below, and the exit status that a
 /// poll returns is noted.
 #[derive(Drop)]
 pub struct RecordedChild<C: Child> {
-    inner: C,
-    note: Option<Note<Ending<C>>>,
-}
-
-impl<C: Child> RecordedChild<C> {
-    // Returns the child that notes its end there.
-    pub(crate) fn new(inner: C, note: Option<Note<Ending<C>>>) -> RecordedChild<C>
-        ensures { result.inner ≡ inner }
-    {
-        RecordedChild { inner, note }
-    }
+    pub(crate) inner: C,
+    pub(crate) note: Option<Note<Ending<C>>>,
 }
 
 impl<C: Child> Numbered for RecordedChild<C> {
@@ -184,17 +136,8 @@ impl<C: Child> Child for RecordedChild<C> {
 /// bytes that a poll returns are noted.
 #[derive(Drop)]
 pub struct RecordedDrain<S: System> {
-    inner: S::Drain,
-    note: Option<Note<Output<S>>>,
-}
-
-impl<S: System> RecordedDrain<S> {
-    // Returns the worker that notes its bytes there.
-    pub(crate) fn new(inner: S::Drain, note: Option<Note<Output<S>>>) -> RecordedDrain<S>
-        ensures { result.inner ≡ inner }
-    {
-        RecordedDrain { inner, note }
-    }
+    pub(crate) inner: S::Drain,
+    pub(crate) note: Option<Note<Output<S>>>,
 }
 
 impl<S: System> Numbered for RecordedDrain<S> {
@@ -229,38 +172,19 @@ impl<S: System> Job for RecordedDrain<S> {
     }
 }
 
-// What was read so far of an end, for its note.
-type Kept<S> = (Note<Output<S>>, Vec<u8>);
+/// What was read so far of an end, for its note.
+pub(crate) type Kept<S> = (Note<Output<S>>, Vec<u8>);
 
 /// A reader that a recorder returned. It is the reader of the system below, and what it read is
 /// noted at EOF: where a read fails before, other than by an interruption, or there is no memory to
 /// keep the bytes, nothing is.
 #[derive(Drop)]
 pub struct RecordedReader<S: System> {
-    inner: S::Reader,
-    number: u64,
-    kept: Option<Kept<S>>,
+    pub(crate) inner: S::Reader,
+    pub(crate) number: u64,
+    pub(crate) kept: Option<Kept<S>>,
     ghost given: { ForSome kept (λ kept. ∥ HasGiven S.may_read S.Reader.remaining number
         kept.1.items inner ∥₁) },
-}
-
-impl<S: System> RecordedReader<S> {
-    // Returns the reader of the end with this number, which notes its bytes there.
-    pub(crate) fn new(
-        alloc: Global,
-        inner: S::Reader,
-        number: u64,
-        note: Option<Note<Output<S>>>,
-    ) -> RecordedReader<S>
-        requires { S.may_read number inner }
-        ensures { result.inner ≡ inner }
-    {
-        RecordedReader {
-            inner,
-            number,
-            kept: note.map(|note| (note, Vec::new(alloc))),
-        }
-    }
 }
 
 // Reads once. Returns what the reader did, and what is then kept of the end with this number.

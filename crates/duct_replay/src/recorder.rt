@@ -4,7 +4,6 @@ ghost use Rattle.duct_replay.specs.RecordingView.{RecordingView};
 
 use crate::recorded::{
     Ending, Notes, Output, RecordedChild, RecordedDrain, RecordedReader, add_note, note_of,
-    record_endings, record_outputs,
 };
 use crate::recording::Recording;
 use duct_system::copy::copies_of_entries;
@@ -70,12 +69,7 @@ impl<S: System> Recorder<S> {
     pub fn into_inner(self) -> S
         ensures { result ≡ self.inner }
     {
-        let Recorder {
-            inner,
-            alloc: _,
-            endings: _,
-            outputs: _,
-        } = self;
+        let Recorder { inner, .. } = self;
         inner
     }
 
@@ -169,7 +163,7 @@ impl<S: System> System for Recorder<S> {
     {
         let child = self.inner.spawn(spec, io)?;
         let note = add_note(self.alloc, &mut self.endings, child.number());
-        Ok(RecordedChild::new(child, note))
+        Ok(RecordedChild { inner: child, note })
     }
 
     fn start_feed(&mut self, end: S::End, bytes: Arc<Vec<u8>>) -> Result<S::Feed, Fault> {
@@ -178,14 +172,19 @@ impl<S: System> System for Recorder<S> {
 
     fn start_drain(&mut self, end: S::End) -> Result<RecordedDrain<S>, Fault> {
         let note = note_of(&self.outputs, end.number());
-        Ok(RecordedDrain::new(self.inner.start_drain(end)?, note))
+        let inner = self.inner.start_drain(end)?;
+        Ok(RecordedDrain { inner, note })
     }
 
     // It allocates nothing: the note was made when the end was returned.
     fn reader(&mut self, end: S::End) -> RecordedReader<S> {
         let number = end.number();
         let note = note_of(&self.outputs, number);
-        RecordedReader::new(self.alloc, self.inner.reader(end), number, note)
+        RecordedReader {
+            inner: self.inner.reader(end),
+            number,
+            kept: note.map(|note| (note, Vec::new(self.alloc))),
+        }
     }
 
     fn close(&mut self, end: S::End) {
@@ -215,8 +214,16 @@ impl<S: System> Records for Recorder<S> {
     fn recording(&self) -> Result<Recording, AllocError> {
         let entries = copies_of_entries(self.alloc, self.inner.journal())?;
         let mut recording = Recording::new(self.alloc, entries);
-        record_endings(&self.endings, &mut recording)?;
-        record_outputs(&self.outputs, &mut recording)?;
+        for (_, note) in &self.endings {
+            if let Some(ending) = note.get() {
+                recording.ends_with(ending.number, ending.status)?;
+            }
+        }
+        for (_, noted) in &self.outputs {
+            if let Some(output) = noted.get() {
+                recording.reads(output.number, output.shared()?)?;
+            }
+        }
         Ok(recording)
     }
 }

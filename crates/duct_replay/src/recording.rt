@@ -4,7 +4,7 @@ ghost use Rattle.std.specs.Option.{option_copied, option_map};
 ghost use Rattle.duct_system.specs.EntryView.{entry_view};
 ghost use Rattle.duct_replay.specs.Answers.{no_memory};
 ghost use Rattle.duct_replay.specs.RecordingView.{listed, status_of, output_of};
-ghost use Rattle.duct_replay.specs.Same.{bytes_of};
+ghost use Rattle.duct_replay.specs.Ended.{bytes_of};
 
 use crate::found::no_memory;
 use duct_system::system::{Entry, ExitStatus, Fault};
@@ -96,11 +96,7 @@ impl Recording {
     pub fn into_entries(self) -> Vec<Entry>
         ensures { map entry_view result.items ≡ self.entries }
     {
-        let Recording {
-            entries,
-            endings: _,
-            outputs: _,
-        } = self;
+        let Recording { entries, .. } = self;
         entries
     }
 

@@ -1,18 +1,17 @@
 //! A system that answers from a recording.
-ghost use Rattle.std.specs.Prelude.{◌≡◌, ◌≤◌, ◌<◌, ◌+◌, ◌-◌, ◌++◌, [], map, max, min, length, unwrap_or, string_bytes, IfOk, IfSome, IfErr, IfNone, OnOk, OnErr, IsTrue, is_some};
-ghost use Rattle.std.specs.Option.{option_copied, option_map};
+ghost use Rattle.std.specs.Prelude.{◌≡◌, ◌≤◌, ◌<◌, ◌+◌, ◌-◌, [], map, min, length, string_bytes, IfOk, IfErr, OnOk, OnErr};
+ghost use Rattle.std.specs.Option.{option_map};
 ghost use Rattle.duct_system.specs.EntryView.{entry_view};
 ghost use Rattle.duct_system.specs.Journal.{IsNew};
 ghost use Rattle.duct_system.specs.Streams.{stream_of, end_of, ends_of};
 ghost use Rattle.duct_system.specs.declared.system.Kind.TheVariants.{OutOfMemory};
-ghost use Rattle.duct_replay.specs.Answers.{FitsNumber, FitsPipe, IsNext, IsToldRight, next_view, no_memory, unrecorded};
-ghost use Rattle.duct_replay.specs.Retraces.{Retraces};
-ghost use Rattle.duct_replay.specs.Replays.{difference_after, next_of, noted};
+ghost use Rattle.duct_replay.specs.Answers.{FitsNumber, IsNext, IsToldRight, next_view, no_memory};
+ghost use Rattle.duct_replay.specs.Replays.{Retraces, difference_after, next_of, noted};
 
 use crate::found::{
-    Found, found_canonicalize, found_create, found_drain, found_duplicate, found_environment,
-    found_feed, found_open_read, found_parent, found_pipe, found_spawn, is_close, is_reader,
-    no_memory, text_copy, unrecorded,
+    environment_copy, found_canonicalize, found_create, found_drain, found_duplicate,
+    found_environment, found_feed, found_open_read, found_parent, found_pipe, found_spawn,
+    is_close, is_reader, path_copy, text_copy,
 };
 use crate::recording::Recording;
 use crate::replayed::{ReplayChild, ReplayDrain, ReplayFeed, ReplayReader};
@@ -131,51 +130,26 @@ impl Replay {
         self.journal.prepare_spawn(ends)
     }
 
-    // Returns the result of a request for an end or a child: what was found, and if nothing was,
-    // the fault `Other`. Counts up to its number; if it has none, releases the room for this many
-    // ends.
-    fn take_answer(&mut self, found: Found<u64>, ends: usize) -> Result<u64, Fault>
-        requires found { IfSome found (FitsNumber self.old.journal.next) }
+    // Counts up to the number of a result. If it has none, releases the room for this many ends.
+    fn count(&mut self, answer: &Result<u64, Fault>, ends: usize)
+        requires next { FitsNumber self.old.journal.next answer.now }
         requires room { ends ≤ self.old.journal.room }
-        ensures answer { result ≡ unwrap_or found (Err unrecorded) }
-        ensures ok { IfOk result (λ number. self.new ≡ record self.old {
+        ensures ok { IfOk answer.now (λ number. self.new ≡ record self.old {
           journal = record self.old.journal { next = number + 1 };
         }) }
-        ensures next { IfOk result (λ number. IsNext self.old.journal.next number) }
-        ensures err { OnErr result (self.new ≡ record self.old {
+        ensures err { OnErr answer.now (self.new ≡ record self.old {
           journal = record self.old.journal { room = self.old.journal.room - ends };
         }) }
         ensures rest { self.new ≡ record self.old {
           journal = record self.old.journal
               { next = self.new.journal.next; room = self.new.journal.room };
         } }
+        ensures same { next_of self.new ≡ next_of self.old }
     {
-        let answer = found.unwrap_or(Err(unrecorded()));
-        count(&mut self.journal, &answer, ends);
-        answer
-    }
-
-    // Returns the result of opening a pipe, as `take_answer` does.
-    fn take_pipe(&mut self, found: Found<(u64, u64)>) -> Result<(u64, u64), Fault>
-        requires found { IfSome found (FitsPipe self.old.journal.next) }
-        requires room { 2 ≤ self.old.journal.room }
-        ensures answer { result ≡ unwrap_or found (Err unrecorded) }
-        ensures ok { IfOk result (λ ends. self.new ≡ record self.old {
-          journal = record self.old.journal { next = max ends.0 ends.1 + 1 };
-        }) }
-        ensures fits { FitsPipe self.old.journal.next result }
-        ensures err { OnErr result (self.new ≡ record self.old {
-          journal = record self.old.journal { room = self.old.journal.room - 2 };
-        }) }
-        ensures rest { self.new ≡ record self.old {
-          journal = record self.old.journal
-              { next = self.new.journal.next; room = self.new.journal.room };
-        } }
-    {
-        let answer = found.unwrap_or(Err(unrecorded()));
-        let greater = answer.map(|(reader, writer)| reader.max(writer));
-        count(&mut self.journal, &greater, 2);
-        answer
+        match answer {
+            Ok(number) => count_to(&mut self.journal, *number),
+            Err(_) => self.journal.give_back(ends),
+        }
     }
 
     // Adds an entry, which is the one that is recorded next or isn't. Keeps the place of the first
@@ -202,30 +176,12 @@ fn difference_after(agrees: bool, place: usize, difference: Option<usize>) -> Op
     }
 }
 
-// Counts up to a recorded number.
 fn count_to(journal: &mut Journal, number: u64)
     requires { IsNext journal.old.next number }
     ensures { journal.new ≡ record journal.old { next = number + 1 } }
 {
     let count = number - journal.next() + 1;
     let _ = journal.take_numbers(count);
-}
-
-// Counts up to the number of a result. If it has none, releases the room for this many ends.
-fn count(journal: &mut Journal, answer: &Result<u64, Fault>, ends: usize)
-    requires next { FitsNumber journal.old.next answer.now }
-    requires room { ends ≤ journal.old.room }
-    ensures ok { IfOk answer.now
-        (λ number. journal.new ≡ record journal.old { next = number + 1 }) }
-    ensures err { OnErr answer.now (journal.new
-        ≡ record journal.old { room = journal.old.room - ends }) }
-    ensures rest { journal.new
-        ≡ record journal.old { next = journal.new.next; room = journal.new.room } }
-{
-    match answer {
-        Ok(number) => count_to(journal, *number),
-        Err(_) => journal.give_back(ends),
-    }
 }
 
 impl System for Replay {
@@ -239,11 +195,10 @@ impl System for Replay {
     ghost use Rattle.duct_system.specs.Streams.{stream_of, ends_of};
     ghost use Rattle.std.proofs.Common.{lit<};
     ghost use Rattle.duct_replay.specs.Answers.{Fits, FitsNumber, FitsPipe, FitsChild};
-    ghost use Rattle.duct_replay.specs.Left.{HasFound, IsUnread};
+    ghost use Rattle.duct_replay.specs.Views.{HasFound, IsUnread, child_view, feed_view, drain_view};
     ghost use Rattle.duct_replay.specs.RecordingView.{status_of, output_of};
     ghost use Rattle.duct_replay.specs.Replays.{Replays, MayReplay, Steps};
-    ghost use Rattle.duct_replay.specs.Same.{bytes_of};
-    ghost use Rattle.duct_replay.specs.Views.{child_view, feed_view, drain_view};
+    ghost use Rattle.duct_replay.specs.Ended.{bytes_of};
 
     type End = ReplayEnd;
 
@@ -274,22 +229,12 @@ impl System for Replay {
         ensures replayed { MayReplay Environment Fits self.old
             (answer_of (λ pairs. map pair_text pairs.items) result) self.new }
     {
-        let found = found_environment(self.journal.allocator(), self.next())?;
+        let alloc = self.journal.allocator();
+        let (answer, agrees) = found_environment(alloc, self.next())?;
+        let kept = environment_copy(alloc, &answer)?;
         self.prepare(0)?;
-        match found {
-            Some(Ok((pairs, kept))) => {
-                self.note(Entry::Environment(Ok(kept)), true);
-                Ok(pairs)
-            }
-            Some(Err(fault)) => {
-                self.note(Entry::Environment(Err(fault)), true);
-                Err(fault)
-            }
-            None => {
-                self.note(Entry::Environment(Err(unrecorded())), false);
-                Err(unrecorded())
-            }
-        }
+        self.note(Entry::Environment(kept), agrees);
+        answer
     }
 
     fn pipe(&mut self) -> Result<(ReplayEnd, ReplayEnd), Fault>
@@ -303,9 +248,9 @@ impl System for Replay {
             (answer_of (λ ends. (ends.0.number, ends.1.number)) result) self.new }
     {
         self.prepare(2)?;
-        let found = found_pipe(self.next(), self.journal.next());
-        let answer = self.take_pipe(found);
-        self.note(Entry::Pipe(answer), found.is_some());
+        let (answer, agrees) = found_pipe(self.next(), self.journal.next());
+        self.count(&answer.map(|(reader, writer)| reader.max(writer)), 2);
+        self.note(Entry::Pipe(answer), agrees);
         let (reader, writer) = answer?;
         Ok((ReplayEnd { number: reader }, ReplayEnd { number: writer }))
     }
@@ -321,9 +266,9 @@ impl System for Replay {
     {
         let kept = text_copy(self.journal.allocator(), path)?;
         self.prepare(1)?;
-        let found = found_open_read(self.next(), path, self.journal.next());
-        let answer = self.take_answer(found, 1);
-        self.note(Entry::OpenRead(kept, answer), found.is_some());
+        let (answer, agrees) = found_open_read(self.next(), path, self.journal.next());
+        self.count(&answer, 1);
+        self.note(Entry::OpenRead(kept, answer), agrees);
         Ok(ReplayEnd { number: answer? })
     }
 
@@ -338,9 +283,9 @@ impl System for Replay {
     {
         let kept = text_copy(self.journal.allocator(), path)?;
         self.prepare(1)?;
-        let found = found_create(self.next(), path, self.journal.next());
-        let answer = self.take_answer(found, 1);
-        self.note(Entry::Create(kept, answer), found.is_some());
+        let (answer, agrees) = found_create(self.next(), path, self.journal.next());
+        self.count(&answer, 1);
+        self.note(Entry::Create(kept, answer), agrees);
         Ok(ReplayEnd { number: answer? })
     }
 
@@ -355,9 +300,9 @@ impl System for Replay {
             self.old (answer_of (λ made. made.number) result) self.new }
     {
         self.prepare(1)?;
-        let found = found_duplicate(self.next(), end.number, self.journal.next());
-        let answer = self.take_answer(found, 1);
-        self.note(Entry::Duplicate(end.number, answer), found.is_some());
+        let (answer, agrees) = found_duplicate(self.next(), end.number, self.journal.next());
+        self.count(&answer, 1);
+        self.note(Entry::Duplicate(end.number, answer), agrees);
         Ok(ReplayEnd { number: answer? })
     }
 
@@ -371,9 +316,9 @@ impl System for Replay {
             (answer_of (λ made. made.number) result) self.new }
     {
         self.prepare(1)?;
-        let found = found_parent(self.next(), side, self.journal.next());
-        let answer = self.take_answer(found, 1);
-        self.note(Entry::Parent(side, answer), found.is_some());
+        let (answer, agrees) = found_parent(self.next(), side, self.journal.next());
+        self.count(&answer, 1);
+        self.note(Entry::Parent(side, answer), agrees);
         Ok(ReplayEnd { number: answer? })
     }
 
@@ -389,22 +334,11 @@ impl System for Replay {
     {
         let alloc = self.journal.allocator();
         let asked = text_copy(alloc, path)?;
-        let found = found_canonicalize(alloc, self.next(), path)?;
+        let (answer, agrees) = found_canonicalize(alloc, self.next(), path)?;
+        let kept = path_copy(alloc, &answer)?;
         self.prepare(0)?;
-        match found {
-            Some(Ok((text, kept))) => {
-                self.note(Entry::Canonicalize(asked, Ok(kept)), true);
-                Ok(text)
-            }
-            Some(Err(fault)) => {
-                self.note(Entry::Canonicalize(asked, Err(fault)), true);
-                Err(fault)
-            }
-            None => {
-                self.note(Entry::Canonicalize(asked, Err(unrecorded())), false);
-                Err(unrecorded())
-            }
-        }
+        self.note(Entry::Canonicalize(asked, kept), agrees);
+        answer
     }
 
     fn spawn(&mut self, spec: CommandSpec, io: [Stdio<ReplayEnd>; 3]) -> Result<ReplayChild, Fault>
@@ -428,9 +362,9 @@ impl System for Replay {
         let (streams, ends) = numbered_streams(&io);
         self.prepare_spawn(ends)?;
         match found_spawn(self.next(), &spec, &streams, self.journal.next()) {
-            Ok(found) => {
-                let answer = self.take_answer(found, 0);
-                self.note(Entry::Spawn(spec, streams, answer), found.is_some());
+            Ok((answer, agrees)) => {
+                self.count(&answer, 0);
+                self.note(Entry::Spawn(spec, streams, answer), agrees);
                 let number = answer?;
                 let status = self.recording.status(number);
                 Ok(ReplayChild::new(self.journal.allocator(), number, status))
@@ -454,9 +388,8 @@ impl System for Replay {
         ensures replayed { Replays (Feed end.number (arc_value bytes).items) Fits self.old
             (answer_of (λ job. tt) result) self.new }
     {
-        let found = found_feed(self.next(), end.number, &bytes);
-        let answer = found.unwrap_or(Err(unrecorded()));
-        self.note(Entry::Feed(end.number, bytes, answer), found.is_some());
+        let (answer, agrees) = found_feed(self.next(), end.number, &bytes);
+        self.note(Entry::Feed(end.number, bytes, answer), agrees);
         answer?;
         Ok(ReplayFeed::new(end.number))
     }
@@ -473,24 +406,19 @@ impl System for Replay {
         ensures read { IfOk result
             (λ job. option_map bytes_of job.bytes ≡ output_of end.number self.old.recording) }
     {
-        match found_drain(self.next(), end.number) {
-            Some(Ok(())) => match self.recording.output(end.number) {
-                Ok(bytes) => {
-                    self.note(Entry::Drain(end.number, Ok(())), true);
-                    Ok(ReplayDrain::new(end.number, bytes))
-                }
-                Err(fault) => {
-                    self.note(Entry::Drain(end.number, Err(fault)), false);
-                    Err(fault)
-                }
-            },
-            Some(Err(fault)) => {
-                self.note(Entry::Drain(end.number, Err(fault)), true);
-                Err(fault)
+        let (answer, agrees) = found_drain(self.next(), end.number);
+        if let Err(fault) = answer {
+            self.note(Entry::Drain(end.number, answer), agrees);
+            return Err(fault);
+        }
+        match self.recording.output(end.number) {
+            Ok(bytes) => {
+                self.note(Entry::Drain(end.number, Ok(())), agrees);
+                Ok(ReplayDrain::new(end.number, bytes))
             }
-            None => {
-                self.note(Entry::Drain(end.number, Err(unrecorded())), false);
-                Err(unrecorded())
+            Err(fault) => {
+                self.note(Entry::Drain(end.number, Err(fault)), false);
+                Err(fault)
             }
         }
     }

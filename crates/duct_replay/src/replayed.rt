@@ -2,9 +2,8 @@
 ghost use Rattle.std.specs.Prelude.{◌≡◌, Some, ◌≤◌, ◌++◌, [], min, take, drop, length};
 ghost use Rattle.std.specs.Option.{ForSome, option_map};
 ghost use Rattle.duct_system.specs.Child.{IsUnasked, OrdersChild};
-ghost use Rattle.duct_replay.specs.Ended.{IsObeyed, told_of};
+ghost use Rattle.duct_replay.specs.Ended.{IsObeyed, told_of, SaysBytes, bytes_of, had};
 ghost use Rattle.duct_system.specs.Job.{unpolled_job};
-ghost use Rattle.duct_replay.specs.Same.{SaysBytes, bytes_of, had};
 
 use crate::found::unrecorded;
 use duct_system::system::{Child, ExitStatus, Fault, Job, Kind, Numbered, Order, Said};
@@ -224,8 +223,7 @@ impl Job for ReplayDrain {
     ghost use Rattle.std.proofs.Common.{refl};
     ghost use Rattle.duct_system.specs.Job.{PollsJob};
     ghost use Rattle.std.specs.Option.{option_map};
-    ghost use Rattle.duct_replay.specs.Ended.{MayRead};
-    ghost use Rattle.duct_replay.specs.Same.{SameBytes, HasRead, bytes_of};
+    ghost use Rattle.duct_replay.specs.Ended.{MayRead, SameBytes, HasRead, bytes_of};
     ghost use Rattle.duct_replay.specs.Views.{drain_view};
 
     type Result = Arc<Vec<u8>>;
@@ -302,7 +300,7 @@ impl Read for ReplayReader {
     ghost use Rattle.std.specs.Prelude.{◌≡◌, length};
     ghost use Rattle.std.specs.Io.{ReadsAtMost};
     ghost use Rattle.std.specs.Io.KnownBytes.{ReadConsumes};
-    ghost use Rattle.duct_replay.specs.Left.{ReadsLeft, left_of};
+    ghost use Rattle.duct_replay.specs.Views.{ReadsLeft, left_of};
 
     ghost remaining = { left_of };
 

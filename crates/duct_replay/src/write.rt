@@ -1,23 +1,22 @@
-//! The lines of an entry, of how a child ended, and of what was read of an end.
-ghost use Rattle.std.specs.Prelude.{◌≡◌, ◌≤◌, ◌++◌, [], ◌∷◌, false, Some, Ok, codes, length, map, string_bytes, IfOk, OnOk};
+//! The lines of a recording: of an entry, of how a child ended, and of what was read of an end.
+ghost use Rattle.std.specs.Prelude.{◌≡◌, ◌++◌, ◌∷◌, [], Some, Ok, flat_map, length, map, string_bytes, IfOk, OnOk};
 ghost use Rattle.std.specs.Option.{option_copied};
 ghost use Rattle.duct_system.specs.EntryView.{entry_view};
 ghost use Rattle.duct_system.specs.SpecView.{AreOrdered, pair_text};
-ghost use Rattle.duct_replay.specs.EntryData.{answer_data, bytes_data, entry_data, feed_data, folder_data, kind_name, list_data, number_data, port_data, ports_data, refused_data, request_data, side_name, spawn_data, stream_data, variable_data, variables_data};
-ghost use Rattle.duct_replay.specs.ItemData.{Ended, Read, ending_data, ending_text, output_data, output_text, status_data};
-ghost use Rattle.duct_replay.specs.JournalMeant.{ReadsFirst};
+ghost use Rattle.duct_replay.specs.EntryData.{AreBytes, Ended, IsWritable, ItemView, Noted, Read, answer_data, bytes_data, entry_data, feed_data, folder_data, item_data, item_text, kind_name, list_data, number_data, port_data, ports_data, refused_data, request_data, side_name, spawn_data, stream_data, variable_data, variables_data};
+ghost use Rattle.duct_replay.specs.JournalMeant.{AllRead, ReadsFirst, output_view};
 ghost use Rattle.duct_replay.specs.Meant.{line_meant};
-ghost use Rattle.duct_replay.specs.Writable.{AreBytes, IsSmallStatus, IsWritable};
 ghost use Rattle.duct_replay.specs.declared.write.Variables.{Variables};
-ghost use Rattle.serde_json.specs.Data.{depth, string};
-ghost use Rattle.serde_json.specs.Read.{max_depth, read};
+ghost use Rattle.serde_json.specs.Data.{string};
+ghost use Rattle.serde_json.specs.Read.{read};
 ghost use Rattle.serde_json.specs.View.{view};
-ghost use Rattle.serde_json.specs.Written.{compact_text, has_float};
+ghost use Rattle.serde_json.specs.Written.{compact_text};
 
 use duct_system::spec::{CommandSpec, Port, Stream};
 use duct_system::system::{Entry, ExitStatus, Fault, Kind, Side, Stdio};
 use serde_json::Value;
 use std::alloc::{AllocError, Global};
+use std::sync::Arc;
 
 /// Whether the values of variables are written.
 #[derive(Clone, Copy, Debug, PartialEq, Eq)]
@@ -39,21 +38,97 @@ pub fn entry_text(alloc: Global, entry: &Entry, variables: Variables) -> Result<
     ensures shown { variables ≡ Variables.Shown → IfOk result
         (λ text. line_meant (string_bytes text) ≡ Ok (entry_view entry.now)) }
 {
-    let value = entry_value(alloc, entry, variables)?;
+    let value = entry.value(alloc, variables)?;
     value.to_string(alloc)
 }
 
-// The value that an entry is written as.
-#[tactic(auto, unfolding(crate::specs::EntryData::entry_data))]
-fn entry_value(alloc: Global, entry: &Entry, variables: Variables) -> Result<Value, AllocError>
-    ensures value { IfOk result
-        (λ value. view value ≡ entry_data variables (entry_view entry.now)) }
-    ensures writable { OnOk result (IsWritable (entry_view entry.now)) }
+// ---- items of a recording
+
+/// What a line of a recording is written from.
+pub(crate) trait Written {
+    /// The item that the line says.
+    ghost item: { Self → ItemView };
+
+    /// Returns the value that the line has.
+    fn value(&self, alloc: Global, variables: Variables) -> Result<Value, AllocError>
+        ensures value { IfOk result (λ value. view value ≡ item_data variables (item self.now)) }
+        ensures writable { OnOk result (IsWritable (item self.now)) };
+}
+
+/// Adds the line of each of these, with a newline at its end.
+pub(crate) fn push_lines<T: Written>(
+    alloc: Global,
+    text: &mut String,
+    values: &[T],
+    variables: Variables,
+) -> Result<(), AllocError>
+    ensures text { OnOk result (string_bytes text.new ≡ string_bytes text.old
+        ++ flat_map (item_text variables) (map T.item values.now)) }
+    ensures shown { variables ≡ Variables.Shown →
+        OnOk result (AllRead variables (map T.item values.now)) }
 {
-    let mut items = request(alloc, entry, variables)?;
-    let mut more = answer(alloc, entry, variables)?;
-    items.append(&mut more)?;
-    Ok(Value::Array(items))
+    let mut rest = values;
+    while let Some((value, behind)) = rest.split_first() {
+        text.push_str(line(alloc, value, variables)?.as_str())?;
+        rest = behind;
+    }
+    Ok(())
+}
+
+#[tactic(auto, unfolding(crate::specs::EntryData::item_text))]
+fn line<T: Written>(alloc: Global, item: &T, variables: Variables) -> Result<String, AllocError>
+    ensures text { IfOk result
+        (λ line. string_bytes line ≡ item_text variables (T.item item.now)) }
+    ensures shown { variables ≡ Variables.Shown → OnOk result
+        (ReadsFirst (item_text variables (T.item item.now)) (T.item item.now)) }
+{
+    let value = item.value(alloc, variables)?;
+    let mut line = value.to_string(alloc)?;
+    line.push('\n')?;
+    Ok(line)
+}
+
+impl Written for Entry {
+    ghost item = { λ entry. Noted (entry_view entry) };
+
+    #[tactic(auto, unfolding(crate::specs::EntryData::item_data, crate::specs::EntryData::entry_data))]
+    fn value(&self, alloc: Global, variables: Variables) -> Result<Value, AllocError> {
+        let mut items = request(alloc, self, variables)?;
+        let mut more = answer(alloc, self, variables)?;
+        items.append(&mut more)?;
+        Ok(Value::Array(items))
+    }
+}
+
+/// The number of a child, and how it ended.
+impl Written for (u64, ExitStatus) {
+    ghost item = { Ended };
+
+    #[tactic(auto, unfolding(crate::specs::EntryData::item_data))]
+    fn value(&self, alloc: Global, _variables: Variables) -> Result<Value, AllocError> {
+        let (child, status) = self;
+        let name = text(alloc, "ended")?;
+        let (kind, code) = match status {
+            ExitStatus::Code(code) => ("code", *code),
+            ExitStatus::Signal(signal) => ("signal", *signal),
+        };
+        let kind = text(alloc, kind)?;
+        let items = vec![in alloc; name, Value::from(*child), kind, Value::from(code)]?;
+        Ok(Value::Array(items))
+    }
+}
+
+/// The number of an end, and what was read of it.
+impl Written for (u64, Arc<Vec<u8>>) {
+    ghost item = { λ output. Read (output_view output) };
+
+    #[tactic(auto, unfolding(crate::specs::EntryData::item_data))]
+    fn value(&self, alloc: Global, _variables: Variables) -> Result<Value, AllocError> {
+        let (end, bytes) = self;
+        let name = text(alloc, "read")?;
+        let bytes = input(alloc, bytes.as_slice())?;
+        Ok(Value::Array(vec![in alloc; name, Value::from(*end), bytes]?))
+    }
 }
 
 // ---- requests
@@ -63,7 +138,7 @@ fn entry_value(alloc: Global, entry: &Entry, variables: Variables) -> Result<Val
 fn request(alloc: Global, entry: &Entry, variables: Variables) -> Result<Vec<Value>, AllocError>
     ensures items { IfOk result
         (λ items. map view items.items ≡ request_data variables (entry_view entry.now)) }
-    ensures writable { OnOk result (IsWritable (entry_view entry.now)) }
+    ensures writable { OnOk result (IsWritable (Noted (entry_view entry.now))) }
 {
     match entry {
         Entry::Environment(_) => one(alloc, "environment"),
@@ -85,7 +160,6 @@ fn request(alloc: Global, entry: &Entry, variables: Variables) -> Result<Vec<Val
     }
 }
 
-// The request of a child.
 fn spawn(
     alloc: Global,
     spec: &CommandSpec,
@@ -100,7 +174,10 @@ fn spawn(
     let name = text(alloc, "spawn")?;
     let words = words(alloc, spec.words())?;
     let folder = folder(alloc, spec.folder())?;
-    let vars = spec_variables(alloc, spec, variables)?;
+    let Ok(vars) = spec.vars() else {
+        return Err(AllocError);
+    };
+    let vars = listed(alloc, vars.as_slice(), variables)?;
     let ports = ports(alloc, spec)?;
     let streams = streams(alloc, io)?;
     Ok(vec![in alloc; name, words, folder, vars, ports, streams]?)
@@ -118,7 +195,6 @@ fn input(alloc: Global, bytes: &[u8]) -> Result<Value, AllocError>
     }
 }
 
-// Bytes as numbers.
 fn numbers(alloc: Global, bytes: &[u8]) -> Result<Value, AllocError>
     ensures { IfOk result (λ value. view value ≡ list_data (map number_data bytes.now)) }
 {
@@ -129,7 +205,6 @@ fn numbers(alloc: Global, bytes: &[u8]) -> Result<Value, AllocError>
     Ok(Value::Array(values))
 }
 
-// Words.
 fn words(alloc: Global, words: &[String]) -> Result<Value, AllocError>
     ensures { IfOk result
         (λ value. view value ≡ list_data (map string (map string_bytes words.now))) }
@@ -141,7 +216,6 @@ fn words(alloc: Global, words: &[String]) -> Result<Value, AllocError>
     Ok(Value::Array(values))
 }
 
-// A folder, or null.
 fn folder(alloc: Global, folder: Option<&str>) -> Result<Value, AllocError>
     ensures { IfOk result (λ value. view value ≡ folder_data (option_copied folder.entry)) }
 {
@@ -151,22 +225,6 @@ fn folder(alloc: Global, folder: Option<&str>) -> Result<Value, AllocError>
     }
 }
 
-// The variables of a spec.
-fn spec_variables(
-    alloc: Global,
-    spec: &CommandSpec,
-    variables: Variables,
-) -> Result<Value, AllocError>
-    ensures value { IfOk result (λ value. view value ≡ variables_data variables spec.now.vars) }
-    ensures ordered { OnOk result (AreOrdered spec.now.vars) }
-{
-    let Ok(vars) = spec.vars() else {
-        return Err(AllocError);
-    };
-    listed(alloc, vars.as_slice(), variables)
-}
-
-// Variables.
 #[tactic(auto, unfolding(crate::specs::EntryData::variables_data))]
 fn listed(alloc: Global, pairs: &[(&str, &str)], variables: Variables) -> Result<Value, AllocError>
     ensures { IfOk result (λ value. view value
@@ -179,7 +237,6 @@ fn listed(alloc: Global, pairs: &[(&str, &str)], variables: Variables) -> Result
     Ok(Value::Array(values))
 }
 
-// The variables of an environment.
 #[tactic(auto, unfolding(crate::specs::EntryData::variables_data))]
 fn environment(
     alloc: Global,
@@ -196,7 +253,6 @@ fn environment(
     Ok(Value::Array(values))
 }
 
-// A variable.
 #[tactic(auto, unfolding(crate::specs::EntryData::variable_data))]
 fn variable(
     alloc: Global,
@@ -214,7 +270,6 @@ fn variable(
     Ok(Value::Array(vec![in alloc; text(alloc, name)?, value]?))
 }
 
-// The ports of a spec.
 fn ports(alloc: Global, spec: &CommandSpec) -> Result<Value, AllocError>
     ensures { IfOk result (λ value. view value ≡ ports_data spec.now) }
 {
@@ -224,7 +279,6 @@ fn ports(alloc: Global, spec: &CommandSpec) -> Result<Value, AllocError>
     Ok(Value::Array(vec![in alloc; input, output, error]?))
 }
 
-// A port.
 fn port(alloc: Global, port: Port) -> Result<Value, AllocError>
     ensures { IfOk result (λ value. view value ≡ port_data port) }
 {
@@ -236,7 +290,6 @@ fn port(alloc: Global, port: Port) -> Result<Value, AllocError>
     }
 }
 
-// The three streams of a child.
 fn streams(alloc: Global, io: &[Stdio<u64>; 3]) -> Result<Value, AllocError>
     ensures value { IfOk result (λ value. view value ≡ list_data (map stream_data io.now)) }
     ensures three { OnOk result (length io.now ≡ 3) }
@@ -248,7 +301,6 @@ fn streams(alloc: Global, io: &[Stdio<u64>; 3]) -> Result<Value, AllocError>
     Ok(Value::Array(vec![in alloc; input, output, error]?))
 }
 
-// A stream of a child.
 fn stream(alloc: Global, stream: &Stdio<u64>) -> Result<Value, AllocError>
     ensures { IfOk result (λ value. view value ≡ stream_data stream.now) }
 {
@@ -259,7 +311,6 @@ fn stream(alloc: Global, stream: &Stdio<u64>) -> Result<Value, AllocError>
     }
 }
 
-// The name of an output stream of the parent.
 fn side_name(side: Side) -> &'static str
     ensures { result.now ≡ side_name side }
 {
@@ -271,7 +322,6 @@ fn side_name(side: Side) -> &'static str
 
 // ---- answers
 
-// The answer to a request.
 #[tactic(auto, unfolding(crate::specs::EntryData::answer_data))]
 fn answer(alloc: Global, entry: &Entry, variables: Variables) -> Result<Vec<Value>, AllocError>
     ensures { IfOk result
@@ -317,7 +367,6 @@ fn refused(alloc: Global, fault: Fault) -> Result<Vec<Value>, AllocError>
     two(alloc, "fault", text(alloc, kind_name(fault.kind))?)
 }
 
-// The name of a kind of fault.
 fn kind_name(kind: Kind) -> &'static str
     ensures { result.now ≡ kind_name kind }
 {
@@ -335,93 +384,21 @@ fn kind_name(kind: Kind) -> &'static str
 
 // ---- items
 
-// A text.
 fn text(alloc: Global, text: &str) -> Result<Value, AllocError>
     ensures { IfOk result (λ value. view value ≡ string text.now) }
 {
     Value::try_from_str(alloc, text)
 }
 
-// One text.
 fn one(alloc: Global, word: &str) -> Result<Vec<Value>, AllocError>
     ensures { IfOk result (λ items. map view items.items ≡ string word.now ∷ []) }
 {
     Ok(vec![in alloc; text(alloc, word)?]?)
 }
 
-// A text and a value.
 fn two(alloc: Global, word: &str, value: Value) -> Result<Vec<Value>, AllocError>
     ensures { IfOk result
         (λ items. map view items.items ≡ string word.now ∷ view value ∷ []) }
 {
     Ok(vec![in alloc; text(alloc, word)?, value]?)
-}
-
-// ---- items of a recording
-
-/// Returns the line of how a child ended, with its newline. Fails only at an allocation failure.
-#[tactic(auto, unfolding(crate::specs::ItemData::ending_text))]
-pub(crate) fn ending_line(
-    alloc: Global,
-    child: u64,
-    status: ExitStatus,
-) -> Result<String, AllocError>
-    ensures text { IfOk result (λ line. string_bytes line ≡ ending_text (child, status)) }
-    ensures read { OnOk result (ReadsFirst (ending_text (child, status)) (Ended (child, status))) }
-{
-    let value = ending_value(alloc, child, status)?;
-    let line = plain_line(alloc, &value)?;
-    Ok(line)
-}
-
-// The value of how a child ended.
-#[tactic(auto, unfolding(crate::specs::ItemData::ending_data))]
-fn ending_value(alloc: Global, child: u64, status: ExitStatus) -> Result<Value, AllocError>
-    ensures value { IfOk result (λ value. view value ≡ ending_data (child, status)) }
-    ensures small { IsSmallStatus status }
-{
-    let name = text(alloc, "ended")?;
-    let (kind, code) = match status {
-        ExitStatus::Code(code) => ("code", code),
-        ExitStatus::Signal(signal) => ("signal", signal),
-    };
-    let kind = text(alloc, kind)?;
-    let items = vec![in alloc; name, Value::from(child), kind, Value::from(code)]?;
-    Ok(Value::Array(items))
-}
-
-/// Returns the line of what was read of an end, with its newline. Fails only at an allocation
-/// failure.
-#[tactic(auto, unfolding(crate::specs::ItemData::output_text))]
-pub(crate) fn output_line(alloc: Global, end: u64, bytes: &[u8]) -> Result<String, AllocError>
-    ensures text { IfOk result (λ line. string_bytes line ≡ output_text (end, bytes.now)) }
-    ensures read { OnOk result (ReadsFirst (output_text (end, bytes.now)) (Read (end, bytes.now))) }
-{
-    let value = output_value(alloc, end, bytes)?;
-    let line = plain_line(alloc, &value)?;
-    Ok(line)
-}
-
-// The value of what was read of an end.
-#[tactic(auto, unfolding(crate::specs::ItemData::output_data))]
-fn output_value(alloc: Global, end: u64, bytes: &[u8]) -> Result<Value, AllocError>
-    ensures value { IfOk result (λ value. view value ≡ output_data (end, bytes.now)) }
-    ensures bytes { AreBytes bytes.now }
-{
-    let name = text(alloc, "read")?;
-    let bytes = input(alloc, bytes)?;
-    Ok(Value::Array(vec![in alloc; name, Value::from(end), bytes]?))
-}
-
-// The line of a value that is read back, with its newline.
-fn plain_line(alloc: Global, value: &Value) -> Result<String, AllocError>
-    requires shallow { depth (view value.now) ≤ max_depth }
-    requires exact { has_float (view value.now) ≡ false }
-    ensures text { IfOk result
-        (λ line. string_bytes line ≡ compact_text (view value.now) ++ 10 ∷ []) }
-    ensures read { OnOk result (read (compact_text (view value.now)) ≡ Some (view value.now)) }
-{
-    let mut line = value.to_string(alloc)?;
-    line.push('\n')?;
-    Ok(line)
 }

@@ -1,4 +1,3 @@
--- The pieces are the lines of the text.
 use Rattle.std.proofs.lemmas.Iterator.Consumers.{map_from_collect}
 use Rattle.std.proofs.lemmas.Iterator.Splits.{YieldsList-from_lines}
 use Rattle.duct_replay.proofs.journal.pieces.Goals as goal

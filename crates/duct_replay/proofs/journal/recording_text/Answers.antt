@@ -1,24 +1,23 @@
 -- The text of all means all.
-use Rattle.std.proofs.Common.{◌≡◌, ℕ, List, map, subst, string_bytes}
-use Rattle.duct_system.specs.EntryView.{EntryView}
+use Rattle.std.proofs.Common.{◌≡◌, List, map, ap, ◌∙◌}
+use Rattle.duct_system.specs.EntryView.{entry_view}
 use Rattle.duct_system.specs.declared.system.ExitStatus.{ExitStatus}
-use Rattle.duct_replay.specs.Same.{Shared}
-use Rattle.duct_replay.specs.ItemData.{Ended, Noted, Read, ending_text, output_text}
-use Rattle.duct_replay.specs.JournalMeant.{AllRead, line_text, output_view, recorded_text, recorded_view}
-use Rattle.duct_replay.proofs.JournalLines.{after_three, recording_back}
+use Rattle.duct_replay.specs.EntryData.{Ended, Noted, Read}
+use Rattle.duct_replay.specs.JournalMeant.{output_view, recorded_view}
+use Rattle.duct_replay.proofs.JournalLines.{all_read, all_written, map_map, recording_back}
 use Rattle.duct_replay.proofs.journal.recording_text.Goals as goal
 
-written : (c : goal.In_ok-push_outputs) → string_bytes c.push_outputs.new.text ≡ recorded_text c.args.variables (recorded_view c.args.recording.now)
-written c =
-    let all = after_three _ _ _ _ _ _ _ c.new-text.ensures.bytes c.in_ok-push_entries.ensures.text c.in_ok-push_endings.ensures.text c.in_ok-push_outputs.ensures.text in
-    rw (← c.entries.ensures, ← c.endings.ensures, ← c.outputs.ensures) all
-
 pub returns-clause-text : goal.returns-clause-text
-returns-clause-text c = written c
+returns-clause-text c =
+    let entries = map_map Noted entry_view c.entries.result.now ∙ ap (map Noted) c.entries.ensures in
+    let endings = ap (map Ended) c.endings.ensures in
+    let outputs = map_map Read output_view c.outputs.result.now ∙ ap (λ outputs. map Read (map output_view outputs)) c.outputs.ensures in
+    all_written c.args.variables (recorded_view c.args.recording.now) _ _ _ entries endings outputs _ _ _ _ c.new-text.ensures.bytes c.in_ok-push_lines.ensures.text c.in_ok-push_lines-2.ensures.text c.in_ok-push_lines-3.ensures.text
 
 pub returns-clause-shown : goal.returns-clause-shown
 returns-clause-shown c shown =
-    let entries = subst (λ (entries : List EntryView). AllRead (line_text c.args.variables) Noted entries) c.entries.ensures (c.in_ok-push_entries.ensures.shown shown) in
-    let endings = subst (λ (endings : List (ℕ × ExitStatus)). AllRead ending_text Ended endings) c.endings.ensures c.in_ok-push_endings.ensures.read in
-    let outputs = subst (λ (outputs : List (ℕ × Shared)). AllRead output_text Read (map output_view outputs)) c.outputs.ensures c.in_ok-push_outputs.ensures.read in
-    recording_back c.args.variables (recorded_view c.args.recording.now) _ entries endings outputs (written c)
+    let entries = map_map Noted entry_view c.entries.result.now ∙ ap (map Noted) c.entries.ensures in
+    let endings = ap (map Ended) c.endings.ensures in
+    let outputs = map_map Read output_view c.outputs.result.now ∙ ap (λ outputs. map Read (map output_view outputs)) c.outputs.ensures in
+    let all = all_read c.args.variables (recorded_view c.args.recording.now) _ _ _ entries endings outputs (c.in_ok-push_lines.ensures.shown shown) (c.in_ok-push_lines-2.ensures.shown shown) (c.in_ok-push_lines-3.ensures.shown shown) in
+    recording_back c.args.variables (recorded_view c.args.recording.now) _ all (returns-clause-text c)

@@ -1,6 +1,5 @@
 use Rattle.std.proofs.Common.{subst}
-use Rattle.duct_replay.specs.Retraces.{Retraces}
-use Rattle.duct_replay.specs.Replays.{ReplayView}
+use Rattle.duct_replay.specs.Replays.{Retraces, ReplayView}
 use Rattle.duct_replay.proofs.replay.Replay.difference.Goals as goal
 
 pub returns-clause-retraces : goal.returns-clause-retraces

@@ -3,11 +3,11 @@ use Rattle.std.proofs.Common.{◌≡◌, map, string_bytes, length}
 use Rattle.serde_json.specs.View.{view}
 use Rattle.duct_replay.specs.Meant.{all_meant, text_meant}
 use Rattle.duct_replay.proofs.Reading.{behind}
-use Rattle.duct_replay.proofs.parts.words_of.Given as goal
+use Rattle.duct_replay.proofs.parts.words.Given as goal
 
 abbrev pub invariant-loop-value : goal.invariant-loop-value
 invariant-loop-value l =
-    behind (map string_bytes l.words.items) (all_meant text_meant (map view l.rest)) ≡ all_meant text_meant (map view l.values)
+    behind (map string_bytes l.words.items) (all_meant text_meant (map view l.rest)) ≡ all_meant text_meant (map view l.initial.rest)
 
 abbrev pub decreases-loop-value : goal.decreases-loop-value
 decreases-loop-value l = length l.rest

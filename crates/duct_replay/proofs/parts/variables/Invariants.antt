@@ -4,11 +4,11 @@ use Rattle.serde_json.specs.View.{view}
 use Rattle.duct_system.specs.SpecView.{pair_text}
 use Rattle.duct_replay.specs.Meant.{all_meant, variable_meant}
 use Rattle.duct_replay.proofs.Reading.{behind}
-use Rattle.duct_replay.proofs.parts.variables_of.Given as goal
+use Rattle.duct_replay.proofs.parts.variables.Given as goal
 
 abbrev pub invariant-loop-value : goal.invariant-loop-value
 invariant-loop-value l =
-    behind (map pair_text l.pairs.items) (all_meant variable_meant (map view l.rest)) ≡ all_meant variable_meant (map view l.values)
+    behind (map pair_text l.pairs.items) (all_meant variable_meant (map view l.rest)) ≡ all_meant variable_meant (map view l.initial.rest)
 
 abbrev pub decreases-loop-value : goal.decreases-loop-value
 decreases-loop-value l = length l.rest
