@@ -10,7 +10,7 @@ use Rattle.duct_program.specs.Printed.{usage_text}
 use Rattle.duct_program.specs.declared.program.NoHook.{NoHook}
 use Rattle.duct_program.specs.declared.usage.Usage.{Usage}
 use Rattle.duct_plan.specs.PlanForm.{plan_text}
-use Rattle.duct_plan.specs.declared.words.NoEnd.{NoEnd}
+use Rattle.duct_plan.specs.declared.program.NoEnd.{NoEnd}
 
 -- the expression that arguments mean, which has no ends of a caller and no hooks
 abbrev pub line_of : List (List ℕ) → Result (TreeView NoEnd NoHook) Usage

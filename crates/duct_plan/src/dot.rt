@@ -24,16 +24,14 @@ impl<E, H> fmt::Display for PlanDot<'_, '_, E, H> {
     fn fmt<W: fmt::Write>(&self, f: &mut fmt::Formatter<W>) -> fmt::Result {
         f.write_str("digraph plan {\n  rankdir=LR;\n")?;
         for place in 0..self.0.items.len() {
-            let item = &self.0.items[place];
-            write_node(item, place, f)?;
-            write_edges(item, place, f)?;
+            draw(&self.0.items[place], place, f)?;
         }
         f.write_str("}\n")
     }
 }
 
-// Writes the node of the request at this place, if it has one.
-fn write_node<E, H, W: fmt::Write>(
+// Writes the node and the edges of the request at this place, if it has some.
+fn draw<E, H, W: fmt::Write>(
     item: &Item<'_, E, H>,
     place: usize,
     f: &mut fmt::Formatter<W>,
@@ -44,36 +42,29 @@ fn write_node<E, H, W: fmt::Write>(
         Item::OpenRead(path) | Item::Create(path) => {
             write!(f, "  n{place} [label={path:?}, shape=note];\n")
         }
-        Item::Spawn(_, words) => {
+        Item::Spawn(found, words) => {
             let program = program_of(words);
             write!(f, "  n{place} [label={program:?}")?;
             for argument in words.get(1..).unwrap_or(&[]) {
                 write!(f, " + \" \" + {argument:?}")?;
             }
-            f.write_str(", shape=box];\n")
-        }
-        Item::Feed(_, _) => write!(f, "  n{place} [label=\"input worker\"];\n"),
-        Item::Drain(_) => write!(f, "  n{place} [label=\"capture worker\"];\n"),
-        Item::Reader(_) => write!(f, "  n{place} [label=\"reader\"];\n"),
-    }
-}
-
-// Writes the edges of the request at this place, if it has some.
-fn write_edges<E, H, W: fmt::Write>(
-    item: &Item<'_, E, H>,
-    place: usize,
-    f: &mut fmt::Formatter<W>,
-) -> fmt::Result {
-    match item {
-        Item::Environment | Item::Pipe | Item::Canonicalize(_) => Ok(()),
-        Item::OpenRead(_) | Item::Create(_) => Ok(()),
-        Item::Spawn(found, _) => {
+            f.write_str(", shape=box];\n")?;
             write!(f, "  {} -> n{place};\n", Joined(found.input))?;
             write!(f, "  n{place} -> {};\n", Joined(found.output))?;
             write!(f, "  n{place} -> {} [label=stderr];\n", Joined(found.error))
         }
-        Item::Feed(pipe, _) => write!(f, "  n{place} -> n{pipe};\n"),
-        Item::Drain(pipe) | Item::Reader(pipe) => write!(f, "  n{pipe} -> n{place};\n"),
+        Item::Feed(pipe, _) => {
+            write!(f, "  n{place} [label=\"input worker\"];\n")?;
+            write!(f, "  n{place} -> n{pipe};\n")
+        }
+        Item::Drain(pipe) => {
+            write!(f, "  n{place} [label=\"capture worker\"];\n")?;
+            write!(f, "  n{pipe} -> n{place};\n")
+        }
+        Item::Reader(pipe) => {
+            write!(f, "  n{place} [label=\"reader\"];\n")?;
+            write!(f, "  n{pipe} -> n{place};\n")
+        }
     }
 }
 

@@ -88,11 +88,11 @@ impl<'t, E, H> Surroundings<'t, E, H> {
     {
         Ok(Surroundings {
             folder: self.folder,
-            changes: copied(alloc, self.changes.as_slice())?,
+            changes: Vec::from_slice(alloc, self.changes.as_slice())?,
             input: self.input,
             output: self.output,
             error: self.error,
-            hooks: copied(alloc, self.hooks.as_slice())?,
+            hooks: Vec::from_slice(alloc, self.hooks.as_slice())?,
         })
     }
 
@@ -223,15 +223,4 @@ fn opened_target<'t, E>(opening: Opening<'t>, place: usize) -> Target<'t, E>
         Opening::Read(_) | Opening::Create(_) => Target::FileAt(place),
         Opening::Capture(_) => Target::WriterAt(place),
     }
-}
-
-// Returns a copy of these items.
-fn copied<T: Copy>(alloc: Global, items: &[T]) -> Result<Vec<T>, AllocError>
-    ensures { IfOk result (λ copy. copy.items ≡ items.now) }
-{
-    let mut copy = Vec::new(alloc);
-    for item in items {
-        copy.push(*item)?;
-    }
-    Ok(copy)
 }

@@ -8,12 +8,10 @@ mod items;
 mod program;
 mod requests;
 mod text;
-mod words;
 
 pub use dot::PlanDot;
 pub use found::{Surroundings, Target, VariableChange};
 pub use items::{Item, Plan};
-pub use program::perform;
+pub use program::{NoEnd, drawing, perform, preview};
 pub use requests::{plan, plan_of_reader};
 pub use text::PlanText;
-pub use words::{NoEnd, drawing, preview};

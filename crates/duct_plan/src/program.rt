@@ -1,17 +1,53 @@
-//! What the program `plan` does: it prints what `host` would request.
-ghost use Rattle.std.specs.Prelude.{◌≡◌, ◌≤◌, ℕ, List, map, string_bytes, IfErr, IfOk};
+//! What a line of words will request, and what the program `plan` prints of that.
+ghost use Rattle.std.specs.Prelude.{◌≡◌, ◌≤◌, ℕ, List, map, string_bytes, IfErr, IfOk, IsOk, OnOk};
 ghost use Rattle.std.specs.Io.KnownBytes.{Appends};
 ghost use Rattle.duct_program.specs.Parsed.{RefusesAs};
-ghost use Rattle.duct_program.specs.Status.{status_of};
-ghost use Rattle.duct_program.specs.declared.failure.Failure.TheVariants as failures;
 ghost use Rattle.duct_program.specs.declared.usage.Usage.{Usage};
-ghost use Rattle.duct_plan.specs.Previewed.{IsPrinted, asked_of, line_of, usage_line};
+ghost use Rattle.duct_plan.specs.Previewed.{IsPreview, IsPrinted, asked_of, line_of, usage_line};
 
-use crate::words::{drawing, preview};
-use duct_program::{Failure, Usage};
+use crate::dot::PlanDot;
+use crate::requests::plan_of_reader;
+use crate::text::PlanText;
+use duct::Expression;
+use duct_program::{Failure, NoHook, Program, Usage, line};
 use std::alloc::Global;
-use std::io;
 use std::io::Write;
+
+const PROGRAM: Program = Program {
+    no_memory: "plan: out of memory\n",
+    failed: 1,
+};
+
+/// The type of a line's ends of the caller, of which it has none.
+#[derive(Drop)]
+pub struct NoEnd;
+
+/// Returns what `host` will request of the system for these arguments, as text: a line for each
+/// request of the start of their expression, as `PlanText` has it. Nothing is requested and nothing
+/// runs. Fails with the first error in the arguments, from left to right, and with `Usage::Memory`
+/// at an allocation failure.
+pub fn preview(alloc: Global, args: &[String]) -> Result<String, Usage>
+    ensures text { IfOk result
+        (λ text. IsPreview (line_of (map string_bytes args.now)) (string_bytes text)) }
+    ensures usage { IfErr result
+        (λ usage. RefusesAs usage (line_of (map string_bytes args.now))) }
+{
+    let expression: Expression<NoEnd, NoHook> = line(alloc, args)?;
+    let plan = plan_of_reader(alloc, &expression)?;
+    Ok(PlanText(&plan).to_string(alloc)?)
+}
+
+/// Returns what `host` will request of the system for these arguments, as a graph in the DOT
+/// language: that of the start of their expression, as `PlanDot` has it. Nothing is requested and
+/// nothing runs. Fails as `preview` does.
+pub fn drawing(alloc: Global, args: &[String]) -> Result<String, Usage>
+    ensures known { OnOk result (IsOk (line_of (map string_bytes args.now))) }
+    ensures usage { IfErr result
+        (λ usage. RefusesAs usage (line_of (map string_bytes args.now))) }
+{
+    let expression: Expression<NoEnd, NoHook> = line(alloc, args)?;
+    Ok(PlanDot(&plan_of_reader(alloc, &expression)?).to_string(alloc)?)
+}
 
 /// Does the program's work and returns its exit status. What the arguments' start requests is
 /// written to `out`, and the status is 0: as `preview` has it or, where the first argument is
@@ -30,8 +66,8 @@ pub fn perform<O: Write, E: Write>(alloc: Global, args: &[String], out: &mut O, 
     ensures status { result ≤ 2 }
 {
     match printed(alloc, args) {
-        Ok(text) => print_text(&text, out).unwrap_or(1),
-        Err(usage) => print_usage(usage, err).unwrap_or(1),
+        Ok(text) => PROGRAM.tell(out, 0, text.as_str()),
+        Err(usage) => PROGRAM.tell(err, Failure::Usage(usage).status(), usage_line(usage)),
     }
 }
 
@@ -42,11 +78,9 @@ fn printed(alloc: Global, args: &[String]) -> Result<String, Usage>
     ensures usage { IfErr result
         (λ usage. RefusesAs usage (line_of (asked_of (map string_bytes args.now)).1)) }
 {
-    let asked = asked_of(args);
-    if asked.0 {
-        drawing(alloc, asked.1)
-    } else {
-        preview(alloc, asked.1)
+    match asked_of(args) {
+        (true, words) => drawing(alloc, words),
+        (false, words) => preview(alloc, words),
     }
 }
 
@@ -60,26 +94,6 @@ fn asked_of(args: &[String]) -> (bool, &[String])
     }
 }
 
-// Writes a text, and returns the status 0. Fails where the write fails.
-fn print_text<O: Write>(text: &str, out: &mut O) -> io::Result<u8>
-    ensures status { IfOk result (λ status. status ≡ 0) }
-    ensures text { IfOk result
-        (λ status. Appends (O.contents out.old) (O.contents out.new) text.now) }
-{
-    out.write_all(text.as_bytes())?;
-    Ok(0)
-}
-
-// Writes the line of a usage error, and returns its status. Fails where the write fails.
-fn print_usage<E: Write>(usage: Usage, err: &mut E) -> io::Result<u8>
-    ensures status { IfOk result (λ status. status ≡ status_of (failures.Usage usage)) }
-    ensures text { IfOk result
-        (λ status. Appends (E.contents err.old) (E.contents err.new) (usage_line usage)) }
-{
-    err.write_all(usage_line(usage).as_bytes())?;
-    Ok(Failure::Usage(usage).status())
-}
-
 // Returns the line of a usage error.
 fn usage_line(usage: Usage) -> &'static str
     ensures { result.now ≡ usage_line usage }
@@ -88,6 +102,6 @@ fn usage_line(usage: Usage) -> &'static str
         Usage::EmptyCommand => "plan: empty command\n",
         Usage::MissingText => "plan: missing text\n",
         Usage::MissingPath => "plan: missing path\n",
-        Usage::Memory => "plan: out of memory\n",
+        Usage::Memory => PROGRAM.no_memory,
     }
 }

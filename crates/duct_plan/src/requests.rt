@@ -7,8 +7,7 @@ ghost use Rattle.duct_start.specs.Step.{opening_of, closing_of};
 ghost use Rattle.duct_tree.specs.EffectView.{opening_view};
 ghost use Rattle.duct_tree.specs.NodeView.{node_view};
 ghost use Rattle.duct.specs.TreeView.{tree_view};
-ghost use Rattle.duct_plan.specs.PlanView.{found_of};
-ghost use Rattle.duct_plan.specs.PlanView.{item_of, plan_view};
+ghost use Rattle.duct_plan.specs.PlanView.{found_of, item_of, plan_view};
 ghost use Rattle.duct_plan.specs.Inside.{after_tasks, tasks_left, tasks_of_tree};
 
 use crate::found::{Surroundings, Target};

@@ -1,19 +1,10 @@
--- Commands piped one after the other, and redirections around a command.
-use Rattle.std.proofs.Common.{◌≡◌, ℕ, List, [], ◌∷◌, ◌++◌, ap, length, map, Ok, refl}
+-- The pieces that are left, and redirections around a command.
+use Rattle.std.proofs.Common.{◌≡◌, ℕ, List, [], ◌∷◌, ◌++◌, ap, length, map, refl}
 use Rattle.std.specs.declared.option.Option.{Option}
-use Rattle.std.specs.declared.result.Result.{Result}
 use Rattle.duct_start.specs.TreeView.{TreeView, around}
-use Rattle.duct_program.specs.CommandView.{redirection_view}
-use Rattle.duct_program.specs.Line.{commands_of, piped, redirected_tree, redirects}
-use Rattle.duct_program.specs.Parsed.{◌>>=◌}
-use Rattle.duct_program.specs.Pieces.{further}
+use Rattle.duct_program.specs.Command.{redirection_view}
+use Rattle.duct_program.specs.Line.{further, redirected_tree, redirects}
 use Rattle.duct_program.specs.declared.command.Redirection.{Redirection}
-use Rattle.duct_program.specs.declared.usage.Usage.{Usage}
-
--- the commands of pieces, piped after a tree
-abbrev pub piped_behind : {E H : Type 0} → TreeView E H → List (List (List ℕ))
-    → Result (TreeView E H) Usage
-piped_behind left others = commands_of others >>= λ commands. Ok (piped left commands)
 
 -- how many pieces are left
 abbrev pub pieces_len : Option (List (List ℕ)) → ℕ

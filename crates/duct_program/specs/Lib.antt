@@ -1,10 +1,6 @@
 pub mod Answered
 pub mod Command
-pub mod CommandView
 pub mod Line
 pub mod Options
-pub mod OptionsView
 pub mod Parsed
-pub mod Pieces
 pub mod Printed
-pub mod Status

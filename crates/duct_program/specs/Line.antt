@@ -1,5 +1,7 @@
 -- The expression that the program's arguments mean.
-use Rattle.std.specs.Prelude.{ℕ, List, [], ◌∷◌, true, false, Some, None, Ok, Err}
+use Rattle.std.specs.Prelude.{ℕ, List, [], ◌∷◌, Bool, false, Some, None, Ok, Err, if◌then◌else◌, codes}
+use Rattle.std.specs.List.{slice_split}
+use Rattle.std.specs.Str.{bytes_eq}
 use Rattle.std.specs.declared.option.Option.{Option}
 use Rattle.std.specs.declared.result.Result.{Result}
 use Rattle.duct_system.specs.declared.spec.Stream.TheVariants as streams
@@ -9,21 +11,19 @@ use Rattle.duct_program.specs.declared.usage.Usage.TheVariants.{EmptyCommand}
 use Rattle.duct_program.specs.Command.{CommandView, RedirectionView, parts_of}
 use Rattle.duct_program.specs.Options.{OptionsView, no_options, options_from}
 use Rattle.duct_program.specs.Parsed.{◌>>=◌}
-use Rattle.duct_program.specs.Pieces.{pieces}
 
--- a command, or the error `EmptyCommand` if it has no words
-abbrev pub worded : CommandView → Result CommandView Usage
-worded said = elim said.words [ [] ↦ Err EmptyCommand | word ∷ words ↦ Ok said ]
+-- whether an argument is a `|`
+abbrev pub is_bar : List ℕ → Bool
+is_bar arg = bytes_eq arg (codes "|")
 
--- the command of one piece
-abbrev pub command_of : List (List ℕ) → Result CommandView Usage
-command_of piece = parts_of None piece >>= worded
+-- the arguments, split at each `|`: there is one piece more than there are `|`
+abbrev pub pieces : List (List ℕ) → List (List (List ℕ))
+pieces args = slice_split is_bar args
 
--- the command of each piece, or the error of the first piece that has none
-abbrev pub commands_of : List (List (List ℕ)) → Result (List CommandView) Usage
-commands_of [] = Ok []
-commands_of (piece ∷ others) =
-    command_of piece >>= λ said. commands_of others >>= λ commands. Ok (said ∷ commands)
+-- the pieces of the arguments after a `|`, if there is one
+abbrev pub further : Option (List (List ℕ)) → List (List (List ℕ))
+further None = []
+further (Some args) = pieces args
 
 module _ {E H : Type 0} where
   -- the modifier that a redirection puts around its command
@@ -41,14 +41,27 @@ module _ {E H : Type 0} where
   redirected_tree (redirection ∷ others) tree =
       around (redirects redirection) (redirected_tree others tree)
 
-  -- a command with its redirections around it
-  abbrev pub command_tree : CommandView → TreeView E H
-  command_tree said = redirected_tree said.redirections (command said.words)
+  -- a command with its redirections around it, or the error `EmptyCommand` if it has no words
+  abbrev pub worded_tree : CommandView → Result (TreeView E H) Usage
+  worded_tree said =
+      elim said.words [
+        | [] ↦ Err EmptyCommand
+        | word ∷ words ↦ Ok (redirected_tree said.redirections (command (word ∷ words)))
+      ]
 
-  -- commands piped after a tree, from left to right
-  abbrev pub piped : TreeView E H → List CommandView → TreeView E H
-  piped left [] = left
-  piped left (right ∷ others) = piped (pipe left (command_tree right)) others
+  -- the command that one piece means
+  abbrev pub piece_tree : List (List ℕ) → Result (TreeView E H) Usage
+  piece_tree piece = parts_of None piece >>= worded_tree
+
+  -- a tree with the commands of these pieces piped after it, from left to right
+  abbrev pub piped : TreeView E H → List (List (List ℕ)) → Result (TreeView E H) Usage
+  piped left [] = Ok left
+  piped left (piece ∷ others) = piece_tree piece >>= λ right. piped (pipe left right) others
+
+  -- the pipe that the pieces mean
+  abbrev pub pipeline_of : List (List (List ℕ)) → Result (TreeView E H) Usage
+  pipeline_of [] = Err EmptyCommand
+  pipeline_of (first ∷ others) = piece_tree first >>= λ left. piped left others
 
   -- a tree with the text for stdin around it, if there is one
   abbrev pub with_input : Option (List ℕ) → TreeView E H → TreeView E H
@@ -58,25 +71,8 @@ module _ {E H : Type 0} where
   -- that tree with `unchecked` around it, if the options ask for it
   abbrev pub with_options : OptionsView → TreeView E H → TreeView E H
   with_options options tree =
-      elim options.unchecked [
-        | true ↦ around unchecked (with_input options.stdin tree)
-        | false ↦ with_input options.stdin tree
-      ]
-
-  -- the pipe that the pieces mean
-  abbrev pub pipeline_of : List (List (List ℕ)) → Result (TreeView E H) Usage
-  pipeline_of [] = Err EmptyCommand
-  pipeline_of (first ∷ others) =
-      command_of first >>= λ left.
-      commands_of others >>= λ commands. Ok (piped (command_tree left) commands)
-
-  -- a command with its redirections around it, or the error `EmptyCommand` if it has no words
-  abbrev pub worded_tree : CommandView → Result (TreeView E H) Usage
-  worded_tree read = worded read >>= λ said. Ok (command_tree said)
-
-  -- the command that one piece means
-  abbrev pub piece_tree : List (List ℕ) → Result (TreeView E H) Usage
-  piece_tree piece = command_of piece >>= λ said. Ok (command_tree said)
+      let given = with_input options.stdin tree
+      in if options.unchecked then around unchecked given else given
 
   -- the expression that the arguments mean, or the first usage error in them from left to right
   abbrev pub meant : List (List ℕ) → Result (TreeView E H) Usage

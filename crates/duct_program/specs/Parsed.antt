@@ -2,20 +2,18 @@
 use Rattle.std.specs.Prelude.{◌≡◌, Err, Ok}
 use Rattle.std.specs.declared.result.Result.{Result}
 use Rattle.duct_program.specs.declared.usage.Usage.{Usage}
-use Rattle.duct_program.specs.declared.usage.Usage.TheVariants.{EmptyCommand, MissingPath, MissingText, Memory}
+use Rattle.duct_program.specs.declared.usage.Usage.TheVariants.{Memory}
 
 infixl 10 ◌>>=◌
--- a value goes on to the next step, and a usage error stays
-abbrev pub ◌>>=◌ : {A B : Type 0} → Result A Usage → (A → Result B Usage) → Result B Usage
+-- a value goes on to the next step, and an error stays
+abbrev pub ◌>>=◌ : {A B E : Type 0} → Result A E → (A → Result B E) → Result B E
 (Ok value) >>= next = next value
-(Err usage) >>= next = Err usage
+(Err error) >>= next = Err error
 
 -- the usage error is the one that is read, or an allocation failed
 abbrev pub RefusesAs : {B : Type 0} → Usage → Result B Usage → Type 0
 RefusesAs Memory read = Unit {0}
-RefusesAs EmptyCommand read = read ≡ Err EmptyCommand
-RefusesAs MissingText read = read ≡ Err MissingText
-RefusesAs MissingPath read = read ≡ Err MissingPath
+RefusesAs usage read = read ≡ Err usage
 
 -- the result, seen by a view, is what is read, or an allocation failed
 abbrev pub ParsesAs : {A B : Type 0} → (A → B) → Result A Usage → Result B Usage → Type 0

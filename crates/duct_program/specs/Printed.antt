@@ -1,11 +1,16 @@
--- What the program prints: one line, to stdout or to stderr.
+-- What the program prints, one line to stdout or to stderr, and its exit status.
 use Rattle.std.specs.Prelude.{◌≡◌, ◌⊎◌, ℕ, List, [], ◌∷◌, ◌++◌, IfSome, Option, Some, None, codes}
 use Rattle.std.specs.Io.KnownBytes.{Appends}
-use Rattle.duct_program.specs.Status.{status_of}
 use Rattle.duct_program.specs.declared.failure.Failure.{Failure}
 use Rattle.duct_program.specs.declared.failure.Failure.TheVariants as failures
 use Rattle.duct_program.specs.declared.usage.Usage.{Usage}
 use Rattle.duct_program.specs.declared.usage.Usage.TheVariants.{EmptyCommand, MissingPath, MissingText, Memory}
+
+-- the status for a failure: 2 where the arguments are wrong, otherwise 1
+abbrev pub status_of : Failure → ℕ
+status_of (failures.Usage Memory) = 1
+status_of (failures.Usage usage) = 2
+status_of (failures.Error error) = 1
 
 -- the text of a usage error
 abbrev pub usage_text : Usage → List ℕ

@@ -3,11 +3,10 @@ ghost use Rattle.std.specs.Option.{option_map};
 ghost use Rattle.std.specs.Prelude.{◌≡◌, ◌∷◌, map, position, Ok, string_bytes, IfOk, IsOkUnless};
 ghost use Rattle.duct_start.specs.TreeView.{around};
 ghost use Rattle.duct.specs.TreeView.{tree_view};
-ghost use Rattle.duct_program.specs.CommandView.{command_view, redirection_view};
-ghost use Rattle.duct_program.specs.Line.{meant, piece_tree, pipeline_of, redirected_tree, redirects, with_options, worded_tree};
-ghost use Rattle.duct_program.specs.OptionsView.{options_view};
+ghost use Rattle.duct_program.specs.Command.{command_view, redirection_view};
+ghost use Rattle.duct_program.specs.Line.{further, is_bar, meant, piece_tree, pieces, pipeline_of, redirected_tree, redirects, with_options, worded_tree};
+ghost use Rattle.duct_program.specs.Options.{options_view};
 ghost use Rattle.duct_program.specs.Parsed.{ParsesAs};
-ghost use Rattle.duct_program.specs.Pieces.{further, is_bar, pieces};
 
 use crate::command::{Command, Redirection, read_command};
 use crate::options::{Options, read_options};

@@ -1,6 +1,6 @@
 //! Why the program has no text to print.
 ghost use Rattle.std.specs.Prelude.{◌≡◌};
-ghost use Rattle.duct_program.specs.Status.{status_of};
+ghost use Rattle.duct_program.specs.Printed.{status_of};
 
 use crate::usage::Usage;
 use duct::Error;

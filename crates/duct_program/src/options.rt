@@ -1,8 +1,7 @@
 //! The options before the first word.
 ghost use Rattle.std.specs.Prelude.{false, map, string_bytes};
-ghost use Rattle.duct_program.specs.Options.{no_options, options_from};
+ghost use Rattle.duct_program.specs.Options.{no_options, options_from, options_view};
 ghost use Rattle.duct_program.specs.Parsed.{ParsesAs};
-ghost use Rattle.duct_program.specs.OptionsView.{options_view};
 
 use crate::usage::Usage;
 

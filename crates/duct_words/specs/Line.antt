@@ -1,20 +1,23 @@
--- The expression of a text, read one token after the other, or why it has none.
+-- The expression of a text, read one token after the other, or why it has none; and what contracts
+-- see of what was read so far.
 use Rattle.std.specs.Prelude.{◌≡◌, ℕ, List, [], ◌∷◌, ◌++◌, Some, None, Ok, Err}
+use Rattle.std.specs.Option.{option_map}
 use Rattle.std.specs.declared.option.Option.{Option}
 use Rattle.std.specs.declared.result.Result.{Result}
 use Rattle.duct_system.specs.declared.spec.Stream.{Stream}
 use Rattle.duct_start.specs.TreeView.{TreeView, pipe}
+use Rattle.duct.specs.TreeView.{tree_view}
 use Rattle.duct_words.specs.Split as tokens
 use Rattle.duct_words.specs.Split.{TokenView, split_of}
-use Rattle.duct_words.specs.declared.error.SplitError.{SplitError}
 use Rattle.duct_words.specs.declared.error.SplitError.TheVariants as splits
-use Rattle.duct_program.specs.Command.{CommandView}
+use Rattle.duct_program.specs.Command.{CommandView, command_view}
 use Rattle.duct_program.specs.Line.{worded_tree}
 use Rattle.duct_program.specs.Parsed.{◌>>=◌}
 use Rattle.duct_program.specs.declared.usage.Usage.{Usage}
 use Rattle.duct_program.specs.declared.usage.Usage.TheVariants as usages
 use Rattle.duct_words.specs.declared.error.LineError.{LineError}
 use Rattle.duct_words.specs.declared.error.LineError.TheVariants as errors
+use Rattle.duct_words.specs.declared.reader.Reader.{Reader}
 
 -- what was read so far: the commands before, piped, if there is one; the command that has begun;
 -- and the stream that the operator before redirects, if one stands there
@@ -27,7 +30,20 @@ pub record State (E H : Type 0) : Type 0 where
 abbrev pub no_words : CommandView
 no_words = record { words = []; redirections = [] }
 
+-- the same result, with another form of its error
+abbrev pub err_as : {A U E : Type 0} → (U → E) → Result A U → Result A E
+err_as form (Ok value) = Ok value
+err_as form (Err error) = Err (form error)
+
 module _ {E H : Type 0} where
+  -- what the code has read so far
+  abbrev pub reader_view : Reader E H → State E H
+  reader_view reader = record {
+    left = option_map tree_view reader.left;
+    command = command_view reader.command;
+    stream = reader.stream;
+  }
+
   -- before the first token
   abbrev pub start : State E H
   start = record { left = None; command = no_words; stream = None }
@@ -54,14 +70,10 @@ module _ {E H : Type 0} where
   with_word text state =
       elim state.stream [
         | None ↦ record state {
-          command = record {
-            words = state.command.words ++ text ∷ [];
-            redirections = state.command.redirections;
-          };
+          command = record state.command { words = state.command.words ++ text ∷ [] };
         }
         | Some stream ↦ record state {
-          command = record {
-            words = state.command.words;
+          command = record state.command {
             redirections = state.command.redirections
                 ++ record { stream = stream; path = text } ∷ [];
           };
@@ -89,34 +101,17 @@ module _ {E H : Type 0} where
   tree_of state [] = ended state
   tree_of state (token ∷ others) = step state token >>= λ after. tree_of after others
 
-  -- the expression that is read of tokens, as that of a text
-  abbrev pub meant_by : Result (TreeView E H) Usage → Result (TreeView E H) LineError
-  meant_by (Ok tree) = Ok tree
-  meant_by (Err usage) = Err (errors.Usage usage)
-
-  -- the expression of tokens, if there are any
-  abbrev pub tree_of_split : Result (List TokenView) SplitError
-      → Result (TreeView E H) LineError
-  tree_of_split (Ok found) = meant_by (tree_of start found)
-  tree_of_split (Err error) = Err (errors.Split error)
-
   -- the expression of a text
   abbrev pub line_of : List ℕ → Result (TreeView E H) LineError
-  line_of text = tree_of_split (split_of text)
+  line_of text =
+      err_as errors.Split (split_of text) >>= λ found.
+      err_as errors.Usage (tree_of start found)
 
 -- the error is the one that is read, or an allocation failed
 abbrev pub RefusesAs : {B : Type 0} → LineError → Result B LineError → Type 0
 RefusesAs (errors.Split splits.Memory) read = Unit {0}
-RefusesAs (errors.Split (splits.Unquoted c place)) read =
-    read ≡ Err (errors.Split (splits.Unquoted c place))
-RefusesAs (errors.Split (splits.UnclosedQuote place)) read =
-    read ≡ Err (errors.Split (splits.UnclosedQuote place))
-RefusesAs (errors.Split (splits.LastBackslash place)) read =
-    read ≡ Err (errors.Split (splits.LastBackslash place))
 RefusesAs (errors.Usage usages.Memory) read = Unit {0}
-RefusesAs (errors.Usage usages.EmptyCommand) read = read ≡ Err (errors.Usage usages.EmptyCommand)
-RefusesAs (errors.Usage usages.MissingText) read = read ≡ Err (errors.Usage usages.MissingText)
-RefusesAs (errors.Usage usages.MissingPath) read = read ≡ Err (errors.Usage usages.MissingPath)
+RefusesAs error read = read ≡ Err error
 
 -- the result, seen by a view, is what is read, or an allocation failed
 abbrev pub ParsesAs : {A B : Type 0} → (A → B) → Result A LineError → Result B LineError → Type 0

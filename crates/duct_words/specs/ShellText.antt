@@ -1,4 +1,5 @@
--- A text of an expression for a shell, or why it has none.
+-- A text of an expression for a shell, or why it has none; and what contracts see of what a modifier
+-- is to a shell.
 use Rattle.std.specs.Prelude.{◌≡◌, ℕ, List, [], ◌∷◌, ◌++◌, Bool, false, ◌==◌, ◌||◌, Some, None, Ok, Err, if◌then◌else◌, is_some, codes}
 use Rattle.std.specs.List.{list_any}
 use Rattle.std.specs.declared.option.Option.{Option}
@@ -6,10 +7,12 @@ use Rattle.std.specs.declared.result.Result.{Result}
 use Rattle.duct_base.specs.Executable.{asks_canonical, dotted}
 use Rattle.duct_start.specs.Plan.{program_of}
 use Rattle.duct_start.specs.TreeView.{ModifierView, TreeView, command, pipe, around, stdin_bytes, stdin_path, stdin_file, stdin_null, stdout_path, stdout_file, stdout_null, stdout_capture, stdout_to_stderr, stderr_path, stderr_file, stderr_null, stderr_capture, stderr_to_stdout, stdout_stderr_swap, dir, env, env_remove, full_env, unchecked, before_spawn}
+use Rattle.duct_program.specs.Parsed.{◌>>=◌}
 use Rattle.duct_words.specs.Quote.{quote_of}
-use Rattle.duct_words.specs.Split.{◌>>=◌}
 use Rattle.duct_words.specs.declared.error.ShellTextError.{ShellTextError}
 use Rattle.duct_words.specs.declared.error.ShellTextError.TheVariants.{Bytes, End, Capture, Removal, Hook, Folder, Name, Program, RelativeProgram, Nul, Memory}
+use Rattle.duct_words.specs.declared.writer.Part.{Part}
+use Rattle.duct_words.specs.declared.writer.Part.TheVariants as code
 
 -- what a modifier is to a shell: the folder of the commands inside, a variable of theirs, an
 -- operator behind parentheses with the path of its file, or the end of parentheses with what is
@@ -19,6 +22,13 @@ pub data PartView : Type 0 where
   setting : List ℕ → List ℕ → PartView
   file : List ℕ → List ℕ → PartView
   fixed : List ℕ → PartView
+
+-- the same of the code, with its texts as lists of bytes
+abbrev pub part_view : Part → PartView
+part_view (code.Folder path) = folder path.now
+part_view (code.Setting name value) = setting name.now value.now
+part_view (code.File operator path) = file operator.now path.now
+part_view (code.Fixed end) = fixed end.now
 
 -- whether a text begins with `-`
 abbrev pub begins_with_minus : List ℕ → Bool
@@ -91,7 +101,7 @@ module _ {E H : Type 0} where
       text_of in_folder settings left >>= λ first.
       text_of in_folder settings right >>= λ second. Ok (first ++ (codes " | " ++ second))
   text_of in_folder settings (around modifier inner) =
-      part_of modifier >>= λ part. elim part [
+      part_of modifier >>= λ found. elim found [
         | folder path ↦ text_of (Some path) settings inner
         | setting name value ↦
             with_setting settings name value >>= λ more. text_of in_folder more inner
@@ -111,16 +121,7 @@ module _ {E H : Type 0} where
 -- the error is the one that is read, or an allocation failed
 abbrev pub RefusesAs : {B : Type 0} → ShellTextError → Result B ShellTextError → Type 0
 RefusesAs Memory read = Unit {0}
-RefusesAs Bytes read = read ≡ Err Bytes
-RefusesAs End read = read ≡ Err End
-RefusesAs Capture read = read ≡ Err Capture
-RefusesAs Removal read = read ≡ Err Removal
-RefusesAs Hook read = read ≡ Err Hook
-RefusesAs Folder read = read ≡ Err Folder
-RefusesAs Name read = read ≡ Err Name
-RefusesAs Program read = read ≡ Err Program
-RefusesAs RelativeProgram read = read ≡ Err RelativeProgram
-RefusesAs Nul read = read ≡ Err Nul
+RefusesAs error read = read ≡ Err error
 
 -- the result, seen by a view, is what is read, or an allocation failed
 abbrev pub ParsesAs : {A B : Type 0} → (A → B) → Result A ShellTextError

@@ -1,25 +1,24 @@
--- The tokens of a text, read one byte after the other, or why it has none.
-use Rattle.std.specs.Prelude.{◌≡◌, ℕ, suc, List, [], ◌∷◌, ◌++◌, Bool, true, false, ◌==◌, ◌&&◌, ◌||◌, not, Ok, Err, if◌then◌else◌, codes}
+-- The tokens of a text, read one byte after the other, or why it has none; and what contracts see of
+-- tokens, and of what was read so far.
+use Rattle.std.specs.Prelude.{◌≡◌, ℕ, suc, List, [], ◌∷◌, ◌++◌, Bool, true, false, ◌==◌, ◌&&◌, ◌||◌, not, Ok, Err, if◌then◌else◌, codes, map, string_bytes}
 use Rattle.std.specs.Char.{is_ascii_digit}
 use Rattle.std.specs.List.{list_all}
 use Rattle.std.specs.Str.{bytes_eq}
 use Rattle.std.specs.declared.result.Result.{Result}
 use Rattle.duct_system.specs.declared.spec.Stream.{Stream}
 use Rattle.duct_system.specs.declared.spec.Stream.TheVariants as streams
+use Rattle.duct_program.specs.Parsed.{◌>>=◌}
 use Rattle.duct_words.specs.Kind.{is_one_of, kind_of}
-use Rattle.duct_words.specs.declared.kind.Kind.TheVariants.{Ordinary, Blank, Newline, SingleQuote, DoubleQuote, Backslash, Pipe, Less, Greater, Equals, Expansion, Special}
+use Rattle.duct_words.specs.declared.kind.Kind.TheVariants.{Ordinary, Blank, SingleQuote, DoubleQuote, Backslash, Pipe, Less, Greater, Equals}
+use Rattle.duct_words.specs.declared.lexer.Lexer.{Lexer}
 use Rattle.duct_words.specs.declared.lexer.Part.{Part}
 use Rattle.duct_words.specs.declared.lexer.Part.TheVariants.{Gap, Operator, Plain, Quoted}
 use Rattle.duct_words.specs.declared.lexer.Mode.{Mode}
 use Rattle.duct_words.specs.declared.lexer.Mode.TheVariants.{Bare, Escape, Single, Double, DoubleEscape}
 use Rattle.duct_words.specs.declared.error.SplitError.{SplitError}
 use Rattle.duct_words.specs.declared.error.SplitError.TheVariants.{Unquoted, UnclosedQuote, LastBackslash, Memory}
-
-infixl 10 ◌>>=◌
--- a value goes on to the next step, and an error stays
-abbrev pub ◌>>=◌ : {A B E : Type 0} → Result A E → (A → Result B E) → Result B E
-(Ok value) >>= next = next value
-(Err error) >>= next = Err error
+use Rattle.duct_words.specs.declared.token.Token.{Token}
+use Rattle.duct_words.specs.declared.token.Token.TheVariants as code
 
 -- a word as bytes, or an operator
 pub data TokenView : Type 0 where
@@ -38,16 +37,27 @@ pub record State : Type 0 where
   pub at_command : Bool
   pub at_path : Bool
 
+-- a token, with a word as bytes
+abbrev pub token_view : Token → TokenView
+token_view (code.Word text) = word (string_bytes text)
+token_view code.Pipe = pipe
+token_view (code.Redirect stream) = redirect stream
+
+-- what was read so far
+abbrev pub lexer_view : Lexer → State
+lexer_view lexer = record {
+  tokens = map token_view lexer.tokens.items;
+  word = string_bytes lexer.word;
+  part = lexer.part;
+  mode = lexer.mode;
+  at_command = lexer.at_command;
+  at_path = lexer.at_path;
+}
+
 -- before the first byte
 abbrev pub start : State
-start = record {
-  tokens = [];
-  word = [];
-  part = Gap;
-  mode = Bare;
-  at_command = true;
-  at_path = false;
-}
+start =
+    record { tokens = []; word = []; part = Gap; mode = Bare; at_command = true; at_path = false }
 
 -- with an unquoted part of a word, which leaves a word quoted that was so
 abbrev pub ordinary : State → List ℕ → State
@@ -94,10 +104,8 @@ operator token place state c =
 abbrev pub is_number : State → Bool
 is_number state =
     elim state.part [
-      | Gap ↦ false
-      | Operator ↦ false
       | Plain ↦ list_all is_ascii_digit state.word
-      | Quoted ↦ false
+      | _ ↦ false
     ]
 
 -- whether the word and this stream are those of `2>`
@@ -124,7 +132,6 @@ bare place state c bytes =
     elim (kind_of c) [
       | Ordinary ↦ Ok (ordinary state bytes)
       | Blank ↦ Ok (record (finished state) { part = Gap })
-      | Newline ↦ Err (Unquoted c place)
       | SingleQuote ↦ Ok (record state { part = Quoted; mode = Single place })
       | DoubleQuote ↦ Ok (record state { part = Quoted; mode = Double place })
       | Backslash ↦ Ok (record state { mode = Escape place })
@@ -134,8 +141,7 @@ bare place state c bytes =
       | Equals ↦
           if state.at_path || not state.at_command then Ok (ordinary state bytes)
           else Err (Unquoted c place)
-      | Expansion ↦ Err (Unquoted c place)
-      | Special ↦ Err (Unquoted c place)
+      | _ ↦ Err (Unquoted c place)
     ]
 
 -- after a byte behind a backslash that is outside of quotes
@@ -199,9 +205,7 @@ split_of text = read 0 start text
 -- the error is the one that is read, or an allocation failed
 abbrev pub RefusesAs : {B : Type 0} → SplitError → Result B SplitError → Type 0
 RefusesAs Memory read = Unit {0}
-RefusesAs (Unquoted c place) read = read ≡ Err (Unquoted c place)
-RefusesAs (UnclosedQuote place) read = read ≡ Err (UnclosedQuote place)
-RefusesAs (LastBackslash place) read = read ≡ Err (LastBackslash place)
+RefusesAs error read = read ≡ Err error
 
 -- the result, seen by a view, is what is read, or an allocation failed
 abbrev pub ParsesAs : {A B : Type 0} → (A → B) → Result A SplitError → Result B SplitError → Type 0

@@ -2,9 +2,8 @@
 ghost use Rattle.std.specs.Prelude.{◌≡◌, map, encode_utf8};
 ghost use Rattle.std.specs.Char.{is_ascii_digit};
 ghost use Rattle.std.specs.List.{list_all};
-ghost use Rattle.duct_words.specs.Split.{ParsesAs, bare, double, double_escaped, end_of, escaped, finished, is_number, operator, ordinary, redirection, single, split_of, step};
+ghost use Rattle.duct_words.specs.Split.{ParsesAs, bare, double, double_escaped, end_of, escaped, finished, is_number, lexer_view, operator, ordinary, redirection, single, split_of, step, token_view};
 ghost use Rattle.duct_words.specs.declared.error.SplitError.TheVariants.{Unquoted};
-ghost use Rattle.duct_words.specs.LexerView.{lexer_view, token_view};
 
 use crate::error::SplitError;
 use crate::kind::{Kind, kind_of};

@@ -1,11 +1,10 @@
 //! The expression of a text.
 ghost use Rattle.std.specs.Prelude.{◌≡◌, None, OnOk, map};
 ghost use Rattle.duct.specs.TreeView.{tree_view};
-ghost use Rattle.duct_program.specs.CommandView.{command_view};
+ghost use Rattle.duct_program.specs.Command.{command_view};
 ghost use Rattle.duct_program.specs.Parsed as usages;
-ghost use Rattle.duct_words.specs.Line.{ParsesAs, after_command, ended, line_of, no_words, redirected, start, step, tree_of, with_word};
-ghost use Rattle.duct_words.specs.ReaderView.{reader_view};
-ghost use Rattle.duct_words.specs.LexerView.{token_view};
+ghost use Rattle.duct_words.specs.Line.{ParsesAs, after_command, ended, line_of, no_words, reader_view, redirected, start, step, tree_of, with_word};
+ghost use Rattle.duct_words.specs.Split.{token_view};
 
 use crate::error::LineError;
 use crate::lexer::split;

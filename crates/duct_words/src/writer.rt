@@ -5,8 +5,7 @@ ghost use Rattle.std.specs.Option.{option_copied};
 ghost use Rattle.duct_start.specs.Plan.{program_of};
 ghost use Rattle.duct_tree.specs.NodeView.{modifier_view, node_view};
 ghost use Rattle.duct.specs.TreeView.{tree_view};
-ghost use Rattle.duct_words.specs.ShellText.{ParsesAs, command_in, command_text, folder_text, is_setting, part_of, shell_text_of, text_of, with_setting, word_text};
-ghost use Rattle.duct_words.specs.PartView.{part_view};
+ghost use Rattle.duct_words.specs.ShellText.{ParsesAs, command_in, command_text, folder_text, is_setting, part_of, part_view, shell_text_of, text_of, with_setting, word_text};
 
 use crate::error::ShellTextError;
 use crate::quoted::quote;

@@ -1,6 +1,6 @@
 -- The first piece, with and without a `|`.
 use Rattle.std.proofs.Common.{string_bytes, sym, ◌∙◌}
-use Rattle.duct_program.specs.Pieces.{is_bar}
+use Rattle.duct_program.specs.Line.{is_bar}
 use Rattle.duct_program.proofs.Cuts.{cut, uncut}
 use Rattle.duct_program.proofs.expression.first_piece.Goals as goal
 

@@ -2,14 +2,13 @@
 use Rattle.std.proofs.Common.{◌≡◌, map, string_bytes}
 use Rattle.std.specs.Option.{option_map}
 use Rattle.duct.specs.TreeView.{tree_view}
-use Rattle.duct_program.specs.Line.{pipeline_of}
-use Rattle.duct_program.specs.Pieces.{further, pieces}
-use Rattle.duct_program.proofs.Pipes.{piped_behind, pieces_len}
+use Rattle.duct_program.specs.Line.{further, pieces, piped, pipeline_of}
+use Rattle.duct_program.proofs.Pipes.{pieces_len}
 use Rattle.duct_program.proofs.expression.pipeline.Given as goal
 
 abbrev pub invariant-loop-rest : goal.invariant-loop-rest
 invariant-loop-rest g l =
-    piped_behind (tree_view l.left) (further (option_map (λ args. map string_bytes args.now) l.rest))
+    piped (tree_view l.left) (further (option_map (λ args. map string_bytes args.now) l.rest))
     ≡ pipeline_of (pieces (map string_bytes l.fn.args))
 
 abbrev pub decreases-loop-rest : goal.decreases-loop-rest

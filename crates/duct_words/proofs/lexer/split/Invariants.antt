@@ -1,7 +1,6 @@
 -- What is read of the rest, after what was read so far, is what is read of all.
 use Rattle.std.proofs.Common.{◌≡◌}
-use Rattle.duct_words.specs.Split.{read, split_of}
-use Rattle.duct_words.specs.LexerView.{lexer_view}
+use Rattle.duct_words.specs.Split.{lexer_view, read, split_of}
 use Rattle.duct_words.proofs.lexer.split.Given as goal
 
 abbrev pub invariant-loop-place : goal.invariant-loop-place

@@ -1,8 +1,7 @@
 -- What is read of the remaining tokens, after what was read so far, is what is read of all.
 use Rattle.std.proofs.Common.{◌≡◌, drop, map}
-use Rattle.duct_words.specs.LexerView.{token_view}
-use Rattle.duct_words.specs.Line.{start, tree_of}
-use Rattle.duct_words.specs.ReaderView.{reader_view}
+use Rattle.duct_words.specs.Line.{reader_view, start, tree_of}
+use Rattle.duct_words.specs.Split.{token_view}
 use Rattle.duct_words.proofs.reader.tree_of.Given as goal
 
 abbrev pub invariant-loop-token : goal.invariant-loop-token
