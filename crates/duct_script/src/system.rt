@@ -254,10 +254,8 @@ impl Script {
             (λ fault. (fault.kind ≡ Other) × (self.new ≡ self.old)
             × (2 ^ 64 ≤ self.old.journal.next + 1)) }
     {
-        match self.journal.take_numbers(1) {
-            Some(number) => Ok(ScriptEnd { number }),
-            None => Err(Fault::new(Kind::Other)),
-        }
+        let number = self.answer(None, 1)?;
+        Ok(ScriptEnd { number })
     }
 
     /// Returns how many entries can be added without an allocation.
@@ -285,21 +283,6 @@ impl Script {
         self.requests.count(sort)
     }
 
-    /// Makes room for an entry and for this many after it.
-    fn prepare(&mut self, ends: usize) -> Result<(), Fault>
-        ensures ok { OnOk result (self.new ≡ record self.old {
-          journal = record self.old.journal { room = self.old.journal.room + ends + 1 };
-        }) }
-        ensures has_memory { OnOk result (self.old.starved ≡ false) }
-        ensures err { IfErr result (λ fault. fault.kind ≡ OutOfMemory) }
-        ensures unchanged { OnErr result (self.new ≡ self.old) }
-    {
-        if self.starved {
-            return Err(Fault::new(Kind::OutOfMemory));
-        }
-        self.journal.prepare(ends)
-    }
-
     /// Makes room for the entry of a request and for the ends that it returns. Then counts the
     /// request, and returns the fault that is set for it, if there is one. If making room fails,
     /// nothing is counted.
@@ -313,7 +296,10 @@ impl Script {
         ensures err { IfErr result (λ fault. fault.kind ≡ OutOfMemory) }
         ensures unchanged { OnErr result (self.new ≡ self.old) }
     {
-        self.prepare(ends)?;
+        if self.starved {
+            return Err(Fault::new(Kind::OutOfMemory));
+        }
+        self.journal.prepare(ends)?;
         Ok(self.ask(sort))
     }
 

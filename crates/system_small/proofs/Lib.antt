@@ -1,3 +1,1 @@
-pub mod Exits
-pub mod Orders
 pub mod Results

@@ -1,4 +1,4 @@
-use Rattle.system_small.proofs.Orders.{unnoted}
+use Rattle.system_small.proofs.Results.{unnoted}
 use Rattle.system_small.proofs.callers.kill.Goals as goal
 
 pub returns : goal.returns

@@ -1,5 +1,0 @@
-use Rattle.std.proofs.Common.{rules}
-use Rattle.duct_script.proofs.checker.open_count.Goals as goal
-
-pub returns : goal.returns
-returns c = search rules

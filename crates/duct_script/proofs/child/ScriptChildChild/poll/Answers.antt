@@ -1,5 +1,0 @@
-use Rattle.std.proofs.Common.{rules}
-use Rattle.duct_script.proofs.child.ScriptChildChild.poll.Goals as goal
-
-pub returns-clause-polled : goal.returns-clause-polled
-returns-clause-polled c = search rules
