@@ -116,19 +116,36 @@ fn copied<S: System, W: Write>(
     Ok((bytes, whole))
 }
 
+/// Builds with a command that ends at once.
+fn built<S: System, C: Clock>(
+    rt: &impl Wait,
+    alloc: Global,
+    system: &mut S,
+    clock: &C,
+) -> Result<Option<Output>, Error> {
+    let step: Expression<S::End> = cmd!(in alloc; "sleep", "0")?;
+    build(
+        rt,
+        system,
+        &mut Pool::new(alloc),
+        clock,
+        &step,
+        Duration::from_secs(60),
+    )
+}
+
 #[test]
-fn handles_return_outputs(rt: HostRuntime) -> Result<(), Fail> {
-    let (alloc, clock) = (rt.alloc(), HostClock::new(&rt)?);
-    let (mut host, mut pool) = (Host::new(&rt, alloc), Pool::new(alloc));
-    let quick: Expression<duct_host::End> = cmd!(in alloc; "sleep", "0")?;
-    let slow: Expression<duct_host::End> = cmd!(in alloc; "sleep", "20")?;
-    let (soon, late) = (Duration::from_millis(20), Duration::from_secs(60));
-    let done = build(&rt, &mut host, &mut pool, &clock, &quick, late)?;
-    let cut = build(&rt, &mut host, &mut pool, &clock, &slow, soon)?;
-    let stopped = stopped(&rt, alloc, &mut host)?.status;
-    let told = format!(in alloc; "{done:?}; {cut:?}; {stopped:?}")?;
-    let wanted = "Some(Output { status: Code(0), stdout: [], stderr: [] }); None; Signal(15)";
-    assert_eq!(rt; told.as_str(), wanted);
+fn a_step_ends_in_time(rt: HostRuntime) -> Result<(), Fail> {
+    let clock = HostClock::new(&rt)?;
+    let output = built(&rt, rt.alloc(), &mut Host::new(&rt, rt.alloc()), &clock)?;
+    assert!(rt; output.is_some());
+    Ok(())
+}
+
+#[test]
+fn a_signal_ends_a_service(rt: HostRuntime) -> Result<(), Fail> {
+    let output = stopped(&rt, rt.alloc(), &mut Host::new(&rt, rt.alloc()))?;
+    assert!(rt; output.status == ExitStatus::Signal(15));
     Ok(())
 }
 
