@@ -8,9 +8,9 @@ ghost use Rattle.duct_start.specs.TreeView.{around, stdout_file};
 ghost use Rattle.duct.specs.TreeView.{tree_view};
 
 use duct::{Error, Expression, Handle, Hook, Pool, System, cmd};
-use duct_host::{End, Host};
+use duct_host::End;
 use duct_shell::{Failure, Shell};
-use std::fs::{self, File, OpenOptions};
+use std::fs::{self, OpenOptions};
 use std::io::{self, Write};
 use std::sync::Wait;
 use std::test::Fail;
@@ -51,17 +51,6 @@ fn ask<S: System, R: Wait + Clone + Drop, W: Write + Drop>(
     handle.give_up(&mut sh.pool);
     let answer = buffer.get(..answer?).unwrap_or(&[]);
     Ok(String::from_utf8_lossy(sh.alloc, answer)?)
-}
-
-#[test]
-fn a_command_writes_to_an_open_file(rt: HostRuntime) -> Result<(), Fail> {
-    let (mut host, mut pool) = (Host::new(&rt, rt.alloc()), Pool::new(rt.alloc()));
-    let echo: Expression<End> = cmd!(in rt.alloc(); "echo", "foo")?;
-    let end = host.adopt_file(File::create(&rt, "file")?)?;
-    let handle = start_to(&echo, end, &mut host, &mut pool)?;
-    handle.into_output(&rt, &mut pool)?;
-    assert_eq!(rt; fs::read_to_string(&rt, "file")?.as_str(), "foo\n");
-    Ok(())
 }
 
 #[test]

@@ -1,7 +1,6 @@
 //! Commands in the background: limits, signals, kills, starts that are tried again, and readers.
 use duct::unix::HandleExt;
 use duct::{Clock, Error, ExitStatus, Expression, Fault, Handle, Kind, Output, Pool, System, cmd};
-use duct_host::{Host, HostClock};
 use duct_script::{PollAnswer, Script, ScriptEnd, Sort};
 use duct_shell::{Failure, Shell, Tee, each_line, ended, run};
 use duct_tasks::start_attempts;
@@ -114,39 +113,6 @@ fn copied<S: System, W: Write>(
     handle.give_up(&mut pool);
     output?;
     Ok((bytes, whole))
-}
-
-/// Builds with a command that ends at once.
-fn built<S: System, C: Clock>(
-    rt: &impl Wait,
-    alloc: Global,
-    system: &mut S,
-    clock: &C,
-) -> Result<Option<Output>, Error> {
-    let step: Expression<S::End> = cmd!(in alloc; "sleep", "0")?;
-    build(
-        rt,
-        system,
-        &mut Pool::new(alloc),
-        clock,
-        &step,
-        Duration::from_secs(60),
-    )
-}
-
-#[test]
-fn a_step_ends_in_time(rt: HostRuntime) -> Result<(), Fail> {
-    let clock = HostClock::new(&rt)?;
-    let output = built(&rt, rt.alloc(), &mut Host::new(&rt, rt.alloc()), &clock)?;
-    assert!(rt; output.is_some());
-    Ok(())
-}
-
-#[test]
-fn a_signal_ends_a_service(rt: HostRuntime) -> Result<(), Fail> {
-    let output = stopped(&rt, rt.alloc(), &mut Host::new(&rt, rt.alloc()))?;
-    assert!(rt; output.status == ExitStatus::Signal(15));
-    Ok(())
 }
 
 #[test]
