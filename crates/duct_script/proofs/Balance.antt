@@ -2,7 +2,7 @@
 use Rattle.std.proofs.Common.{◌≡◌, refl, sym, ◌∙◌, subst, ℕ, ◌==◌, ◌⊎◌, inl, inr, Bool, true, false, List, [], ◌∷◌, arith}
 use Rattle.std.proofs.lemmas.Bool.{eqb-true}
 use Rattle.duct_system.specs.Ledger.{count_of}
-use Rattle.duct_script.specs.Balance.{Balances, BalancesAt, AllBalance}
+use Rattle.duct_script.specs.Checker.{Balances, BalancesAt, AllBalance}
 
 -- one more number at the start of a list
 absent_or_balances-cons : (got spent : List ℕ) (number first : ℕ) (rest : List ℕ) (same : Bool)

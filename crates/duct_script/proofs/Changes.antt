@@ -8,7 +8,7 @@ use Rattle.duct_script.specs.declared.hook.Target.{Target}
 use Rattle.duct_script.specs.declared.hook.Target.TheVariants.{Inherit, Null, Place}
 use Rattle.duct_script.specs.declared.hook.SpecChange.{SpecChange}
 use Rattle.duct_script.specs.declared.hook.SpecChange.TheVariants.{Word, Var, NoVar, NoVars, Folder, Port}
-use Rattle.duct_script.specs.Change.{port_to, with_port, changed_by, changed}
+use Rattle.duct_script.specs.Settings.{port_to, with_port, changed_by, changed}
 
 -- no target becomes the port `Given`
 target_not_given : (to : Target) → port_to to ≡ Given → ⊥

@@ -11,7 +11,7 @@ use Rattle.std.specs.String.{string_cmp}
 use Rattle.std.specs.declared.string.String.{String}
 use Rattle.std.proofs.Common.{◌≡◌, ap, refl, sym, ◌∙◌}
 use Rattle.duct_system.specs.SpecView.{pair_text}
-use Rattle.duct_script.specs.Paths.{Paths, canonical_of}
+use Rattle.duct_script.specs.Settings.{Paths, canonical_of}
 
 -- the texts of a map after an insertion are the map's texts with the text of the new entry inserted
 pub insert_texts : {Z : Type 0} (es : List (String Z × String Z)) (k v : String Z)

@@ -5,7 +5,7 @@ use Rattle.std.specs.declared.option.Option.{Option}
 use Rattle.duct_system.specs.Job.{SaysAgain}
 use Rattle.duct_system.specs.declared.system.Said.{Said}
 use Rattle.duct_system.specs.declared.system.Said.TheVariants.{Running, Done, Fault}
-use Rattle.duct_script.specs.Said.{Shared, SameBytes, bytes_said}
+use Rattle.duct_script.specs.Answers.{Shared, SameBytes, bytes_said}
 
 -- a clone of what is kept is the same result again; if cloning fails, which happens only for bytes,
 -- the result is Running

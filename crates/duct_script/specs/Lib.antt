@@ -1,15 +1,4 @@
 pub mod Answers
-pub mod Balance
-pub mod Change
-pub mod Next
-pub mod Obeying
-pub mod Paths
-pub mod Refusals
-pub mod Said
-pub mod Shares
-pub mod Shows
-pub mod Source
-pub mod Steps
+pub mod Checker
+pub mod Settings
 pub mod Told
-pub mod Unset
-pub mod Views

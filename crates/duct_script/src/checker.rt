@@ -6,8 +6,7 @@ ghost use Rattle.duct_system.specs.Trace.{trace, is_traced, fault_of};
 ghost use Rattle.duct_system.specs.Ledger.{opened_numbers, opened_by, spent_numbers, spent_by, count_of, IsBalanced, open_count};
 ghost use Rattle.duct_system.specs.Origin.{origin};
 ghost use Rattle.duct_system.specs.Streams.{ends_of};
-ghost use Rattle.duct_script.specs.Balance.{Balances, BalancesAt, AllBalance};
-ghost use Rattle.duct_script.specs.Source.{origin_of, Steps};
+ghost use Rattle.duct_script.specs.Checker.{Balances, BalancesAt, AllBalance, origin_of, Steps};
 
 use duct_system::system::{Entry, Fault, Side, Stdio};
 use std::alloc::{AllocError, Global};

@@ -1,7 +1,7 @@
 //! The children of a scripted system.
 ghost use Rattle.std.specs.Prelude.{◌≡◌, []};
 ghost use Rattle.duct_system.specs.Child.{OrdersChild, IsUnasked};
-ghost use Rattle.duct_script.specs.Obeying.{IsObeying};
+ghost use Rattle.duct_script.specs.Told.{IsObeying};
 
 use crate::answers::Answers;
 use crate::calls::{Call, CallLog, note};
@@ -75,8 +75,7 @@ pub struct ScriptChild {
 }
 
 impl ScriptChild {
-    ghost use Rattle.duct_script.specs.Told.{Obeys};
-    ghost use Rattle.duct_script.specs.Views.{child_view};
+    ghost use Rattle.duct_script.specs.Told.{Obeys, child_view};
 
     /// Returns the child with this number, before any poll or order. It notes its calls in this
     /// log, if there is one.
@@ -150,8 +149,7 @@ impl Child for ScriptChild {
     ghost use Rattle.std.specs.Prelude.{◌≡◌};
     ghost use Rattle.std.proofs.Common.{refl};
     ghost use Rattle.duct_system.specs.Child.{OrdersChild, PollsChild};
-    ghost use Rattle.duct_script.specs.Told.{Obeys, poll_of};
-    ghost use Rattle.duct_script.specs.Views.{child_view};
+    ghost use Rattle.duct_script.specs.Told.{Obeys, poll_of, child_view};
 
     ghost may_answer = { λ _ _. Unit {0} };
 

@@ -1,6 +1,6 @@
 //! A clock that returns the times of a list.
 ghost use Rattle.std.specs.Prelude.{◌≡◌};
-ghost use Rattle.duct_script.specs.Shows.{Shows};
+ghost use Rattle.duct_script.specs.Answers.{Shows};
 
 use duct_system::system::Clock;
 use std::sync::atomic::{AtomicU64, Ordering};

@@ -4,7 +4,7 @@ ghost use Rattle.duct_system.specs.declared.spec.Port.TheVariants.{Given};
 ghost use Rattle.duct_system.specs.declared.system.Kind.TheVariants.{OutOfMemory};
 ghost use Rattle.duct_system.specs.SpecView.{GivesNothing};
 ghost use Rattle.duct_script.specs.declared.hook.HookAnswer.TheVariants.{Obey};
-ghost use Rattle.duct_script.specs.Change.{port_to, with_port, changed_by, changed, has_word, refusal_of};
+ghost use Rattle.duct_script.specs.Settings.{port_to, with_port, changed_by, changed, has_word, refusal_of};
 
 use crate::calls::{Call, CallLog, note};
 use duct_system::error::Error;
@@ -87,7 +87,7 @@ impl ScriptHook {
 impl Hook for ScriptHook {
     ghost use Rattle.std.specs.Prelude.{◌≡◌, ◌⊎◌, Some, None};
     ghost use Rattle.duct_system.specs.declared.system.Kind.TheVariants.{OutOfMemory};
-    ghost use Rattle.duct_script.specs.Change.{changed, refusal_of};
+    ghost use Rattle.duct_script.specs.Settings.{changed, refusal_of};
 
     ghost allows = { λ hook before after. (refusal_of hook.answer before ≡ None)
         × (after ≡ changed hook.changes.items before) };

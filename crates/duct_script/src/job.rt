@@ -2,7 +2,7 @@
 ghost use Rattle.std.specs.Prelude.{◌≡◌, ℕ, List, IfSome, IfNone, IsTrue, ◌↔◌};
 ghost use Rattle.duct_system.specs.Job.{unpolled_job};
 ghost use Rattle.duct_system.specs.declared.system.Said.TheVariants.{Running, Done};
-ghost use Rattle.duct_script.specs.Said.{bytes_said, SameBytes};
+ghost use Rattle.duct_script.specs.Answers.{bytes_said, SameBytes};
 
 use crate::answers::Answers;
 use crate::calls::{Call, CallLog, note};
@@ -33,7 +33,7 @@ pub struct ScriptFeed {
 }
 
 impl ScriptFeed {
-    ghost use Rattle.duct_script.specs.Views.{feed_view};
+    ghost use Rattle.duct_script.specs.Told.{feed_view};
 
     /// Returns the feed of the end with this number, before any poll. It notes its polls in this
     /// log, if there is one.
@@ -71,8 +71,7 @@ impl Job for ScriptFeed {
     ghost use Rattle.std.specs.Prelude.{◌≡◌};
     ghost use Rattle.std.proofs.Common.{refl};
     ghost use Rattle.duct_system.specs.Job.{PollsJob};
-    ghost use Rattle.duct_script.specs.Told.{said_by};
-    ghost use Rattle.duct_script.specs.Views.{feed_view};
+    ghost use Rattle.duct_script.specs.Told.{said_by, feed_view};
 
     type Result = ();
 
@@ -114,7 +113,7 @@ pub struct ScriptDrain {
 }
 
 impl ScriptDrain {
-    ghost use Rattle.duct_script.specs.Views.{drain_view};
+    ghost use Rattle.duct_script.specs.Told.{drain_view};
 
     /// Returns the drain of the end with this number, before any poll. If `script` is empty, its
     /// polls return `empty`, which should hold no bytes. It notes its polls in this log, if there
@@ -161,7 +160,7 @@ impl Numbered for ScriptDrain {
 
 impl Job for ScriptDrain {
     ghost use Rattle.std.proofs.Common.{refl};
-    ghost use Rattle.duct_script.specs.Views.{drain_view};
+    ghost use Rattle.duct_script.specs.Told.{drain_view};
 
     type Result = Arc<Vec<u8>>;
 

@@ -81,7 +81,7 @@ impl ScriptReader {
 }
 
 impl ScriptReader {
-    ghost use Rattle.duct_script.specs.Steps.{step_of};
+    ghost use Rattle.duct_script.specs.Answers.{step_of};
 
     /// Takes the next step. Returns the most bytes that the read may return, which is at least 1,
     /// or the kind of its error.

@@ -1,6 +1,6 @@
 //! The count of the requests to a scripted system, and the faults that a test set for some of them.
 ghost use Rattle.std.specs.Prelude.{◌≡◌, ◌<◌, ◌≤◌, ◌++◌, ◌∷◌, [], replicate, IfSome, IfNone, OnOk, OnErr};
-ghost use Rattle.duct_script.specs.Refusals.{place_of, fault_for, next_fault, with_request};
+ghost use Rattle.duct_script.specs.Settings.{place_of, fault_for, next_fault, with_request};
 
 use duct_system::system::Fault;
 use std::alloc::{AllocError, Global};
@@ -83,7 +83,7 @@ struct Refusal {
 
 impl Refusal {
     ghost use Rattle.std.specs.Prelude.{◌≡◌};
-    ghost use Rattle.duct_script.specs.Refusals.{is_for};
+    ghost use Rattle.duct_script.specs.Settings.{is_for};
 
     /// Returns whether the fault is for the request with the number `among_all` among all requests,
     /// and with the number `among_sort` among those of the sort at `place`.

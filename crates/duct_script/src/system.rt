@@ -3,15 +3,12 @@ ghost use Rattle.std.specs.Prelude.{◌≡◌, ◌+◌, ◌-◌, ◌^◌, ◌<�
 ghost use Rattle.std.specs.Arc.{arc_value};
 ghost use Rattle.duct_system.specs.declared.system.Kind.TheVariants.{OutOfMemory, Other};
 ghost use Rattle.duct_system.specs.SpecView.{pair_text};
-ghost use Rattle.duct_script.specs.Paths.{canonical_of, with_path};
-ghost use Rattle.duct_script.specs.Obeying.{IsObeying};
+ghost use Rattle.duct_script.specs.Settings.{canonical_of, with_path, next_fault, with_request, SharesLog};
+ghost use Rattle.duct_script.specs.Told.{IsObeying};
 ghost use Rattle.duct_script.specs.declared.child.ChildScript.{ChildScript};
-ghost use Rattle.duct_system.specs.Streams.{stream_of, end_of, ends_of};
+ghost use Rattle.duct_system.specs.Streams.{stream_of, ends_of};
 ghost use Rattle.duct_system.specs.declared.system.Said.TheVariants.{Done};
-ghost use Rattle.duct_script.specs.Next.{IsNext};
-ghost use Rattle.duct_script.specs.Refusals.{next_fault, with_request};
-ghost use Rattle.duct_script.specs.Said.{bytes_said};
-ghost use Rattle.duct_script.specs.Shares.{SharesLog};
+ghost use Rattle.duct_script.specs.Answers.{IsNext, bytes_said};
 ghost use Rattle.duct_script.specs.declared.requests.Sort.TheVariants.{Drain};
 
 use crate::answers::Answers;
@@ -63,8 +60,8 @@ pub struct Script {
 impl Script {
     ghost use Rattle.duct_system.specs.Child.{IsUnasked};
     ghost use Rattle.duct_system.specs.Job.{unpolled_job};
-    ghost use Rattle.duct_script.specs.Unset.{IsUnset};
-    ghost use Rattle.duct_script.specs.Views.{child_view, feed_view, drain_view};
+    ghost use Rattle.duct_script.specs.Settings.{IsUnset};
+    ghost use Rattle.duct_script.specs.Told.{child_view, feed_view, drain_view};
 
     /// Returns a system with no variables and no faults set, whose next number is 1. Fails only on
     /// allocation failure.
@@ -474,7 +471,7 @@ impl System for Script {
     ghost use Rattle.duct_system.specs.Journal.{GivesEnds, IsNew, IsRefused};
     ghost use Rattle.duct_system.specs.EntryView.{Spawn};
     ghost use Rattle.duct_system.specs.Streams.{stream_of, ends_of};
-    ghost use Rattle.duct_script.specs.Views.{child_view};
+    ghost use Rattle.duct_script.specs.Told.{child_view};
     ghost use Rattle.std.proofs.Common.{lit<};
 
     type End = ScriptEnd;

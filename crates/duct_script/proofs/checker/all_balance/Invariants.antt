@@ -1,5 +1,5 @@
 use Rattle.std.proofs.Common.{◌↔◌, drop}
-use Rattle.duct_script.specs.Balance.{AllBalance}
+use Rattle.duct_script.specs.Checker.{AllBalance}
 use Rattle.duct_script.proofs.checker.all_balance.Given as goal
 
 abbrev pub invariant-loop-number : goal.invariant-loop-number

@@ -1,5 +1,5 @@
 use Rattle.std.proofs.Common.{◌≡◌, map, drop, string_bytes}
-use Rattle.duct_script.specs.Change.{has_word}
+use Rattle.duct_script.specs.Settings.{has_word}
 use Rattle.duct_script.proofs.hook.contains.Given as goal
 
 abbrev pub invariant-loop-other : goal.invariant-loop-other

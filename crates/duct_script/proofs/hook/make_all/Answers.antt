@@ -1,6 +1,6 @@
 use Rattle.std.proofs.Common.{◌≡◌, arith}
 use Rattle.std.proofs.lemmas.Grind.{common_steps}
-use Rattle.duct_script.specs.Change.{changed}
+use Rattle.duct_script.specs.Settings.{changed}
 use Rattle.duct_script.proofs.Changes.{changes_give_nothing}
 use Rattle.duct_script.proofs.hook.make_all.Goals as goal
 

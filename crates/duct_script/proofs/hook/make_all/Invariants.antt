@@ -1,5 +1,5 @@
 use Rattle.std.proofs.Common.{◌≡◌, drop}
-use Rattle.duct_script.specs.Change.{changed}
+use Rattle.duct_script.specs.Settings.{changed}
 use Rattle.duct_script.proofs.hook.make_all.Given as goal
 
 abbrev pub invariant-loop-change : goal.invariant-loop-change

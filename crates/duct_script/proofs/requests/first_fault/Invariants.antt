@@ -1,5 +1,5 @@
 use Rattle.std.proofs.Common.{◌≡◌, drop}
-use Rattle.duct_script.specs.Refusals.{fault_for}
+use Rattle.duct_script.specs.Settings.{fault_for}
 use Rattle.duct_script.proofs.requests.first_fault.Given as goal
 
 abbrev pub invariant-loop-refusal : goal.invariant-loop-refusal

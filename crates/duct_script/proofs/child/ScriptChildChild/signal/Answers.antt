@@ -1,8 +1,7 @@
 use Rattle.std.proofs.Common.{rules}
 use Rattle.duct_system.specs.Child.{OrdersChild}
 use Rattle.duct_system.specs.declared.system.Order.TheVariants.{Signal}
-use Rattle.duct_script.specs.Told.{Obeys}
-use Rattle.duct_script.specs.Views.{child_view}
+use Rattle.duct_script.specs.Told.{Obeys, child_view}
 use Rattle.duct_script.proofs.Orders.{orders_child}
 use Rattle.duct_script.proofs.child.ScriptChildChild.signal.Goals as goal
 
