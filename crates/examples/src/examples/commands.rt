@@ -1,7 +1,7 @@
 //! Commands and pipelines: arguments, streams, surroundings, and what a hook changes.
 use duct::{CommandSpec, Error, Expression, Fault, Hook, HookBox, Kind, Pool, Port, System, cmd};
 use duct_shell::{Failure, Shell, reason};
-use std::alloc::{AllocError, Global};
+use std::alloc::Global;
 use std::path::Path;
 use std::sync::Wait;
 use std::test::Fail;
