@@ -78,13 +78,33 @@ fn goes_on<W: Write>(
     out: &mut W,
 ) -> io::Result<bool> {
     let (key, wanted) = line.split_once(':').unwrap_or((line, ""));
-    let (wanted, name, is_told) = (wanted.trim(), file.name, file.is_told);
     match read {
-        Ok(is_compared) if !*is_compared || !is_told && found == wanted => return Ok(true),
-        Ok(_) if is_told => writeln!(out, "{number} {key}: {found}"),
-        Ok(_) => writeln!(out, "{name}:{number}: {key}: {found}, not {wanted}"),
-        Err(stop) if is_told => writeln!(out, "{number} stops: {stop}"),
-        Err(stop) => writeln!(out, "{name}:{number}: {stop}"),
-    }?;
-    Ok(is_told && read.is_ok())
+        Ok(false) => Ok(true),
+        Ok(true) if file.is_told => writeln!(out, "{number} {key}: {found}").map(|()| true),
+        Ok(true) if found == wanted.trim() => Ok(true),
+        Ok(true) => write_difference(file.name, number, line, found, out).map(|()| false),
+        Err(stop) => write_stop(file, number, stop, out).map(|()| false),
+    }
+}
+
+/// Writes what was found in a line, and what was wanted.
+fn write_difference<W: Write>(
+    name: &str,
+    number: u64,
+    line: &str,
+    found: &str,
+    out: &mut W,
+) -> io::Result<()> {
+    let (key, wanted) = line.split_once(':').unwrap_or((line, ""));
+    let wanted = wanted.trim();
+    writeln!(out, "{name}:{number}: {key}: {found}, not {wanted}")
+}
+
+/// Writes why a row stops.
+fn write_stop<W: Write>(file: File, number: u64, stop: &TableError, out: &mut W) -> io::Result<()> {
+    if file.is_told {
+        writeln!(out, "{number} stops: {stop}")
+    } else {
+        writeln!(out, "{}:{number}: {stop}", file.name)
+    }
 }
