@@ -4,9 +4,8 @@ use Rattle.std.specs.Str.{bytes_eq}
 use Rattle.std.specs.declared.result.Result.{Result}
 use Rattle.duct_start.specs.Plan.{plan_of_reader}
 use Rattle.duct_start.specs.TreeView.{TreeView}
-use Rattle.duct_program.specs.Answered.{Means}
+use Rattle.duct_program.specs.Answered.{Means, usage_text}
 use Rattle.duct_program.specs.Line.{meant}
-use Rattle.duct_program.specs.Printed.{usage_text}
 use Rattle.duct_program.specs.declared.program.NoHook.{NoHook}
 use Rattle.duct_program.specs.declared.usage.Usage.{Usage}
 use Rattle.duct_plan.specs.PlanForm.{plan_text}

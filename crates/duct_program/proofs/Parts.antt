@@ -1,7 +1,7 @@
 -- The arguments of a command, read one after the other.
 use Rattle.std.proofs.Common.{ℕ, List, ◌++◌, Ok}
 use Rattle.std.specs.declared.result.Result.{Result}
-use Rattle.duct_program.specs.Command.{CommandView, RedirectionView}
+use Rattle.duct_program.specs.Line.{CommandView, RedirectionView}
 use Rattle.duct_program.specs.Parsed.{◌>>=◌}
 use Rattle.duct_program.specs.declared.usage.Usage.{Usage}
 

@@ -2,8 +2,7 @@
 use Rattle.std.proofs.Common.{◌≡◌, ℕ, List, [], ◌∷◌, ◌++◌, ap, length, map, refl}
 use Rattle.std.specs.declared.option.Option.{Option}
 use Rattle.duct_start.specs.TreeView.{TreeView, around}
-use Rattle.duct_program.specs.Command.{redirection_view}
-use Rattle.duct_program.specs.Line.{further, redirected_tree, redirects}
+use Rattle.duct_program.specs.Line.{redirection_view, further, redirected_tree, redirects}
 use Rattle.duct_program.specs.declared.command.Redirection.{Redirection}
 
 -- how many pieces are left

@@ -4,7 +4,7 @@ use Rattle.std.specs.Prelude.{IfOk, Ok, Err}
 use Rattle.std.specs.Result.{result_unwrap_or}
 use Rattle.std.specs.declared.option.Option.{Option}
 use Rattle.std.specs.declared.result.Result.{Result}
-use Rattle.duct_program.specs.Printed.{AppendsFailure, PrintsFailure, status_of}
+use Rattle.duct_program.specs.Answered.{AppendsFailure, PrintsFailure, status_of}
 use Rattle.duct_program.specs.declared.failure.Failure.{Failure}
 use Rattle.duct_program.specs.declared.failure.Failure.TheVariants.{Usage, Error}
 use Rattle.duct_program.specs.declared.usage.Usage as usages

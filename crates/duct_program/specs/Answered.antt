@@ -1,5 +1,5 @@
--- What is returned for arguments: a usage error, or what is said of the expression that they mean.
-use Rattle.std.specs.Prelude.{◌≡◌, ◌⊎◌, ℕ, List, Ok, Err, string_bytes}
+-- What is returned for arguments, and what the program prints of that: one line, and its status.
+use Rattle.std.specs.Prelude.{◌≡◌, ◌⊎◌, ℕ, List, Ok, Err, string_bytes, ◌++◌, IfSome, Some, None, codes}
 use Rattle.std.specs.Io.KnownBytes.{Appends}
 use Rattle.std.specs.declared.alloc.Global.{Global}
 use Rattle.std.specs.declared.option.Option.{Option}
@@ -16,10 +16,48 @@ use Rattle.duct_running.specs.Stored.{Bytes}
 use Rattle.duct.specs.Launched.{Ran, ReadFails, Reads, added_between, reading}
 use Rattle.duct_program.specs.Line.{meant}
 use Rattle.duct_program.specs.Parsed.{RefusesAs}
-use Rattle.duct_program.specs.Printed.{AppendsFailure, line_of_text}
 use Rattle.duct_program.specs.declared.failure.Failure.{Failure}
 use Rattle.duct_program.specs.declared.failure.Failure.TheVariants as failures
 use Rattle.duct_program.specs.declared.usage.Usage.{Usage}
+use Rattle.duct_program.specs.declared.usage.Usage.TheVariants.{EmptyCommand, MissingPath, MissingText, Memory}
+
+-- the status for a failure: 2 where the arguments are wrong, otherwise 1
+abbrev pub status_of : Failure → ℕ
+status_of (failures.Usage Memory) = 1
+status_of (failures.Usage usage) = 2
+status_of (failures.Error error) = 1
+
+-- the text of a usage error
+abbrev pub usage_text : Usage → List ℕ
+usage_text EmptyCommand = codes "empty command"
+usage_text MissingText = codes "missing text"
+usage_text MissingPath = codes "missing path"
+usage_text Memory = codes "out of memory"
+
+-- the text of a failure; that of an error of the expression is not specified here
+abbrev pub failure_text : Failure → Option (List ℕ)
+failure_text (failures.Usage usage) = Some (usage_text usage)
+failure_text (failures.Error error) = None
+
+-- the line of a text: the text and a newline
+abbrev pub line_of_text : List ℕ → List ℕ
+line_of_text text = text ++ codes "\n"
+
+-- the line of an error's text: `host: `, the text and a newline
+abbrev pub line_of_error : List ℕ → List ℕ
+line_of_error text = line_of_text (codes "host: " ++ text)
+
+-- the line of a failure's text is appended to the bytes of a writer
+abbrev pub AppendsFailure : Failure → Option (List ℕ) → Option (List ℕ) → Type 0
+AppendsFailure failure old new = (text : List ℕ)
+    × IfSome (failure_text failure) (λ known. text ≡ known) × Appends old new (line_of_error text)
+
+-- the line of a failure's text is appended, and the status is the failure's; or no memory is left
+-- for that line, that is said in its place, and the status is 1
+abbrev pub PrintsFailure : Failure → ℕ → Option (List ℕ) → Option (List ℕ) → Type 0
+PrintsFailure failure status old new =
+    ((status ≡ status_of failure) × AppendsFailure failure old new)
+    ⊎ ((status ≡ 1) × AppendsFailure (failures.Usage Memory) old new)
 
 -- if the result is a usage error, this holds of it
 abbrev pub IfUsage : {A : Type 0} → Result A Failure → (Usage → Type 0) → Type 0

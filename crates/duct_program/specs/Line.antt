@@ -1,16 +1,94 @@
--- The expression that the program's arguments mean.
-use Rattle.std.specs.Prelude.{ℕ, List, [], ◌∷◌, Bool, false, Some, None, Ok, Err, if◌then◌else◌, codes}
+-- What the program's arguments mean: their options, their commands, and the expression of all.
+use Rattle.std.specs.Prelude.{ℕ, List, [], ◌∷◌, Bool, true, false, Some, None, Ok, Err, if◌then◌else◌, codes, map}
 use Rattle.std.specs.List.{slice_split}
 use Rattle.std.specs.Str.{bytes_eq}
 use Rattle.std.specs.declared.option.Option.{Option}
 use Rattle.std.specs.declared.result.Result.{Result}
+use Rattle.std.specs.Option.{option_map}
 use Rattle.duct_system.specs.declared.spec.Stream.TheVariants as streams
+use Rattle.duct_system.specs.SpecView.{texts_of}
+use Rattle.duct_system.specs.declared.spec.Stream.{Stream}
 use Rattle.duct_start.specs.TreeView.{ModifierView, TreeView, around, command, pipe, stdin_bytes, stdin_path, stdout_path, stderr_path, unchecked}
 use Rattle.duct_program.specs.declared.usage.Usage.{Usage}
-use Rattle.duct_program.specs.declared.usage.Usage.TheVariants.{EmptyCommand}
-use Rattle.duct_program.specs.Command.{CommandView, RedirectionView, parts_of}
-use Rattle.duct_program.specs.Options.{OptionsView, no_options, options_from}
+use Rattle.duct_program.specs.declared.usage.Usage.TheVariants.{EmptyCommand, MissingText, MissingPath}
 use Rattle.duct_program.specs.Parsed.{◌>>=◌}
+use Rattle.duct_program.specs.declared.options.Options.{Options}
+use Rattle.duct_program.specs.declared.command.Command.{Command}
+use Rattle.duct_program.specs.declared.command.Redirection.{Redirection}
+
+-- what the options ask of the whole line: a text for stdin, and that a failure is no error
+pub record OptionsView : Type 0 where
+  pub stdin : Option (List ℕ)
+  pub unchecked : Bool
+
+-- options, with the text as bytes
+abbrev pub options_view : Options → OptionsView
+options_view options = record {
+  stdin = option_map (λ text. text.now) options.stdin;
+  unchecked = options.unchecked;
+}
+
+-- no option at all
+abbrev pub no_options : OptionsView
+no_options = record { stdin = None; unchecked = false }
+
+-- the options at the front of some arguments, read after these options, and the arguments after
+-- them; the truth value says whether the argument before was a `--stdin`, whose text comes first
+abbrev pub options_from : Bool → OptionsView → List (List ℕ)
+    → Result (OptionsView × List (List ℕ)) Usage
+options_from true options [] = Err MissingText
+options_from true options (text ∷ args) =
+    options_from false (record options { stdin = Some text }) args
+options_from false options [] = Ok (options, [])
+options_from false options (arg ∷ args) =
+    if bytes_eq arg (codes "--stdin") then options_from true options args
+    else if bytes_eq arg (codes "--unchecked")
+    then options_from false (record options { unchecked = true }) args
+    else Ok (options, arg ∷ args)
+
+-- a stream that is read from or written to the file of this path
+pub record RedirectionView : Type 0 where
+  pub stream : Stream
+  pub path : List ℕ
+
+-- the words, and the redirections in the order in which they were written
+pub record CommandView : Type 0 where
+  pub words : List (List ℕ)
+  pub redirections : List RedirectionView
+
+-- a redirection, with its path as bytes
+abbrev pub redirection_view : Redirection → RedirectionView
+redirection_view redirection = record { stream = redirection.stream; path = redirection.path.now }
+
+-- a command, with its words and paths as bytes
+abbrev pub command_view : Command → CommandView
+command_view said = record {
+  words = texts_of said.words.items;
+  redirections = map redirection_view said.redirections.items;
+}
+
+-- the stream that an argument redirects, or none if it is a word
+abbrev pub redirected : List ℕ → Option Stream
+redirected arg =
+    if bytes_eq arg (codes "<") then Some streams.In
+    else if bytes_eq arg (codes ">") then Some streams.Out
+    else if bytes_eq arg (codes "2>") then Some streams.Err
+    else None
+
+-- what the arguments of a command mean; the stream is the one that the argument before them
+-- redirects, if it redirects one
+abbrev pub parts_of : Option Stream → List (List ℕ) → Result CommandView Usage
+parts_of None [] = Ok (record { words = []; redirections = [] })
+parts_of (Some stream) [] = Err MissingPath
+parts_of (Some stream) (path ∷ args) =
+    parts_of None args >>= λ said. Ok (record said {
+      redirections = record { stream = stream; path = path } ∷ said.redirections;
+    })
+parts_of None (arg ∷ args) =
+    elim (redirected arg) [
+      | Some stream ↦ parts_of (Some stream) args
+      | None ↦ parts_of None args >>= λ said. Ok (record said { words = arg ∷ said.words })
+    ]
 
 -- whether an argument is a `|`
 abbrev pub is_bar : List ℕ → Bool

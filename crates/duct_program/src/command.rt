@@ -1,6 +1,6 @@
 //! One command of a line: its words, and where its streams go.
 ghost use Rattle.std.specs.Prelude.{◌≡◌, None, map, string_bytes};
-ghost use Rattle.duct_program.specs.Command.{command_view, parts_of, redirected};
+ghost use Rattle.duct_program.specs.Line.{command_view, parts_of, redirected};
 ghost use Rattle.duct_program.specs.Parsed.{ParsesAs};
 
 use crate::usage::Usage;

@@ -3,9 +3,7 @@ ghost use Rattle.std.specs.Option.{option_map};
 ghost use Rattle.std.specs.Prelude.{◌≡◌, ◌∷◌, map, position, Ok, string_bytes, IfOk, IsOkUnless};
 ghost use Rattle.duct_start.specs.TreeView.{around};
 ghost use Rattle.duct.specs.TreeView.{tree_view};
-ghost use Rattle.duct_program.specs.Command.{command_view, redirection_view};
-ghost use Rattle.duct_program.specs.Line.{further, is_bar, meant, piece_tree, pieces, pipeline_of, redirected_tree, redirects, with_options, worded_tree};
-ghost use Rattle.duct_program.specs.Options.{options_view};
+ghost use Rattle.duct_program.specs.Line.{command_view, redirection_view, further, is_bar, meant, piece_tree, pieces, pipeline_of, redirected_tree, redirects, with_options, worded_tree, options_view};
 ghost use Rattle.duct_program.specs.Parsed.{ParsesAs};
 
 use crate::command::{Command, Redirection, read_command};

@@ -1,6 +1,6 @@
 //! Why the program has no text to print.
 ghost use Rattle.std.specs.Prelude.{◌≡◌};
-ghost use Rattle.duct_program.specs.Printed.{status_of};
+ghost use Rattle.duct_program.specs.Answered.{status_of};
 
 use crate::usage::Usage;
 use duct::Error;
@@ -30,7 +30,7 @@ impl Failure {
 }
 
 impl fmt::Display for Failure {
-    ghost use Rattle.duct_program.specs.Printed.{failure_text};
+    ghost use Rattle.duct_program.specs.Answered.{failure_text};
 
     ghost output = { failure_text };
 

@@ -1,6 +1,6 @@
 //! The options before the first word.
 ghost use Rattle.std.specs.Prelude.{false, map, string_bytes};
-ghost use Rattle.duct_program.specs.Options.{no_options, options_from, options_view};
+ghost use Rattle.duct_program.specs.Line.{no_options, options_from, options_view};
 ghost use Rattle.duct_program.specs.Parsed.{ParsesAs};
 
 use crate::usage::Usage;

@@ -4,9 +4,8 @@ ghost use Rattle.std.specs.Prelude.{◌≡◌, ◌≢◌, ◌⊎◌, ◌≤◌, 
 ghost use Rattle.std.specs.Io.KnownBytes.{Appends};
 ghost use Rattle.std.specs.declared.alloc.Global.{Global};
 ghost use Rattle.std.specs.declared.string.String.{String};
-ghost use Rattle.duct_program.specs.Answered.{IfRefused, IfUsage, PrintsError, PrintsText, WritesText, WritesUsage, line_of};
+ghost use Rattle.duct_program.specs.Answered.{IfRefused, IfUsage, PrintsError, PrintsText, WritesText, WritesUsage, line_of, AppendsFailure, PrintsFailure, failure_text, line_of_error, line_of_text};
 ghost use Rattle.duct_program.specs.Parsed.{RefusesAs};
-ghost use Rattle.duct_program.specs.Printed.{AppendsFailure, PrintsFailure, failure_text, line_of_error, line_of_text};
 ghost use Rattle.duct_program.specs.declared.failure.Failure.TheVariants as failures;
 ghost use Rattle.duct_program.specs.declared.usage.Usage.{Usage};
 ghost use Rattle.duct_program.specs.declared.usage.Usage.TheVariants.{Memory};

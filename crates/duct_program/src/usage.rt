@@ -20,7 +20,7 @@ pub enum Usage {
 
 impl fmt::Display for Usage {
     ghost use Rattle.std.specs.Prelude.{Some};
-    ghost use Rattle.duct_program.specs.Printed.{usage_text};
+    ghost use Rattle.duct_program.specs.Answered.{usage_text};
 
     ghost output = { λ usage. Some (usage_text usage) };
 

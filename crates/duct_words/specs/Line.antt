@@ -10,8 +10,7 @@ use Rattle.duct.specs.TreeView.{tree_view}
 use Rattle.duct_words.specs.Split as tokens
 use Rattle.duct_words.specs.Split.{TokenView, split_of}
 use Rattle.duct_words.specs.declared.error.SplitError.TheVariants as splits
-use Rattle.duct_program.specs.Command.{CommandView, command_view}
-use Rattle.duct_program.specs.Line.{worded_tree}
+use Rattle.duct_program.specs.Line.{CommandView, command_view, worded_tree}
 use Rattle.duct_program.specs.Parsed.{◌>>=◌}
 use Rattle.duct_program.specs.declared.usage.Usage.{Usage}
 use Rattle.duct_program.specs.declared.usage.Usage.TheVariants as usages

@@ -1,7 +1,7 @@
 //! The expression of a text.
 ghost use Rattle.std.specs.Prelude.{◌≡◌, None, OnOk, map};
 ghost use Rattle.duct.specs.TreeView.{tree_view};
-ghost use Rattle.duct_program.specs.Command.{command_view};
+ghost use Rattle.duct_program.specs.Line.{command_view};
 ghost use Rattle.duct_program.specs.Parsed as usages;
 ghost use Rattle.duct_words.specs.Line.{ParsesAs, after_command, ended, line_of, no_words, reader_view, redirected, start, step, tree_of, with_word};
 ghost use Rattle.duct_words.specs.Split.{token_view};

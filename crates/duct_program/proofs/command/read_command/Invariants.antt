@@ -1,7 +1,7 @@
 -- What was read so far, followed by what is read of the rest, is what is read of all.
 use Rattle.std.proofs.Common.{◌≡◌, map, string_bytes, None, length}
 use Rattle.duct_system.specs.SpecView.{texts_of}
-use Rattle.duct_program.specs.Command.{parts_of, redirection_view}
+use Rattle.duct_program.specs.Line.{parts_of, redirection_view}
 use Rattle.duct_program.proofs.Parts.{behind}
 use Rattle.duct_program.proofs.command.read_command.Given as goal
 

@@ -1,8 +1,7 @@
 -- The remaining redirections around the tree so far are all redirections around the command.
 use Rattle.std.proofs.Common.{◌≡◌, map, vec_len}
 use Rattle.duct.specs.TreeView.{tree_view}
-use Rattle.duct_program.specs.Command.{redirection_view}
-use Rattle.duct_program.specs.Line.{redirected_tree}
+use Rattle.duct_program.specs.Line.{redirection_view, redirected_tree}
 use Rattle.duct_program.proofs.expression.redirected_by.Given as goal
 
 abbrev pub invariant-loop-redirection : goal.invariant-loop-redirection

@@ -1,6 +1,6 @@
 -- What is read after the options so far is what is read of all.
 use Rattle.std.proofs.Common.{◌≡◌, map, string_bytes, false, length}
-use Rattle.duct_program.specs.Options.{no_options, options_from, options_view}
+use Rattle.duct_program.specs.Line.{no_options, options_from, options_view}
 use Rattle.duct_program.proofs.options.read_options.Given as goal
 
 abbrev pub invariant-loop-arg : goal.invariant-loop-arg
