@@ -15,8 +15,7 @@ ghost use Rattle.duct_handle.specs.AreGiven.{AreGiven};
 ghost use Rattle.duct_handle.specs.Obeyed.{IsObeyed};
 ghost use Rattle.duct.specs.Launched.{Fails, Handles, LaunchRefused, Launched, ReadFails, Reads, Returns, RunFailed, draining, reading};
 ghost use Rattle.duct.specs.TreeView.{tree_view};
-ghost use Rattle.duct_tasks.specs.Until.{HasReached, IfDone, IfLate, LaunchStopped, ReturnsInTime, UnlessEnded};
-ghost use Rattle.duct_tasks.specs.ReadUntil.{PrintsText, ReadFailed, ReadStopped, last_read};
+ghost use Rattle.duct_tasks.specs.Until.{HasReached, IfDone, IfLate, LaunchStopped, ReturnsInTime, UnlessEnded, PrintsText, ReadFailed, ReadStopped, last_read};
 ghost use Rattle.duct_shell.specs.Begun.{Begins, DoesFrom, FailsFrom, FromNow};
 ghost use Rattle.duct_shell.specs.FailedRequest.{Names};
 

@@ -4,7 +4,7 @@ use Rattle.std.specs.Borrow.{MutBor}
 use Rattle.std.specs.Fn.{Shared}
 use Rattle.std.specs.List.{FoldsTo}
 use Rattle.std.specs.declared.result.Result.{Result}
-use Rattle.duct_tasks.specs.Attempts.{Attempts, FailsFor, FnReturnsAtPairMut}
+use Rattle.duct_tasks.specs.Turns.{Attempts, FailsFor, FnReturnsAtPairMut}
 
 pub each_step : {P A : Type 0} (R Q : P → A → P → Type 0) → ((p : P) (x : A) (q : P) → R p x q → Q p x q)
     → (p : P) (xs : List A) (q : P) → FoldsTo R p xs q → FoldsTo Q p xs q

@@ -10,7 +10,6 @@ use Rattle.duct_system.specs.Started.{drains_in}
 use Rattle.duct_status.specs.ShapeView.{ShapeView, shape_view}
 use Rattle.duct_start.specs.Left.{Leaves, pool_view}
 use Rattle.duct_start.specs.Running.{RunningView}
-use Rattle.duct_start.specs.ShapeOfTree.{shape_of_tree}
 use Rattle.duct_start.specs.TreeView.{TreeView}
 use Rattle.duct_run.proofs.Leaving.{takes_in}
 use Rattle.duct_run.specs.Requested.{PoolGets}
@@ -21,8 +20,7 @@ use Rattle.duct_running.specs.Stored.{Bytes}
 use Rattle.duct_handle.proofs.Beginning.{are_numbers}
 use Rattle.duct_handle.specs.Waited.{at_end}
 use Rattle.duct.specs.Launched.{Runs, StartKind, drains_error, drains_output}
-use Rattle.duct_tasks.specs.Until.{AreStopped, HasNotEnded, IsLate, LeavesStopped, MayRun}
-use Rattle.duct_tasks.specs.ReadUntil.{ReadsFirst}
+use Rattle.duct_tasks.specs.Until.{AreStopped, HasNotEnded, IsLate, LeavesStopped, MayRun, ReadsFirst}
 use Rattle.duct_tasks.specs.Turns.{RunsAlike}
 use Rattle.duct_tasks.specs.declared.late.Late.{Late}
 
@@ -70,7 +68,7 @@ module _ {S E C F D H : Type 0} (views : SystemViews S E C F D (Unit {0}) Bytes)
     pub gives_stopped : AreStopped views.may_obey late.killed (map views.child running.children)
         → (before mid after : PoolView C) → Leaves views.may_answer [] (pool_view views.child before) (pool_view views.child mid)
         → PoolGets views running.children mid after
-        → LeavesStopped views.may_answer views.may_obey views.child late.killed added before after
+        → LeavesStopped views late.killed added before after
     gives_stopped stopped before mid after swept gets = (
       map views.child running.children,
       is.are_numbers.children_are,

@@ -1,5 +1,5 @@
 -- What runs until it has ended or is stopped, and is then started again.
-use Rattle.std.specs.Prelude.{ℕ, suc, Bool, true, false, Err, Some, None}
+use Rattle.std.specs.Prelude.{ℕ, suc, Bool, true, false, Some, None}
 use Rattle.std.specs.declared.option.Option.{Option}
 use Rattle.std.proofs.Common.{◌≡◌, ◌+◌, ◌<◌, ◌≤◌, refl, ap, sym, ◌∙◌, subst, inl, inr, arith}
 use Rattle.duct_base.proofs.Sieving.{counted_more}
@@ -10,8 +10,7 @@ use Rattle.duct_run.specs.SystemViews.{SystemViews}
 use Rattle.duct_running.specs.NumbersView.{numbers_of}
 use Rattle.duct_running.specs.Stored.{Bytes}
 use Rattle.duct.specs.declared.expression.Expression.{Expression}
-use Rattle.duct_tasks.specs.Kept.{InSuccession, IsIdle, IsWhy, Keeps, Runs, StoppedIf, WhyAfter, last_of}
-use Rattle.duct_tasks.specs.Turns.{End, GoesTo, Turn, seen}
+use Rattle.duct_tasks.specs.Turns.{InSuccession, IsIdle, IsWhy, Keeps, Runs, StoppedIf, WhyAfter, last_of, End, GoesTo, Turn, seen}
 use Rattle.duct_tasks.specs.declared.keeper.Kept.{Kept}
 use Rattle.duct_tasks.specs.declared.keeper.Why.{Why}
 use Rattle.duct_tasks.specs.declared.keeper.Why.TheVariants.{Stopped, GaveUp}

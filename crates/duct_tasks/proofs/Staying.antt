@@ -1,9 +1,7 @@
 -- What polls leave as it is.
-use Rattle.std.specs.Prelude.{map, Err}
-use Rattle.std.proofs.Common.{◌≡◌, refl, ◌∙◌, inl}
+use Rattle.std.proofs.Common.{refl, ◌∙◌, inl}
 use Rattle.duct_system.specs.Child.{ChildView}
 use Rattle.duct_system.specs.Job.{JobView}
-use Rattle.duct_status.specs.ShapeView.{ShapeView, shape_view}
 use Rattle.duct_start.specs.Running.{RunningView}
 use Rattle.duct_run.specs.SystemViews.{SystemViews}
 use Rattle.duct_running.specs.Allowed.{StoresAllowed}

@@ -1,6 +1,2 @@
-pub mod Attempts
-pub mod Expressions
-pub mod Kept
-pub mod ReadUntil
 pub mod Turns
 pub mod Until

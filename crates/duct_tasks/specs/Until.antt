@@ -1,30 +1,34 @@
--- What an expression that runs until a moment of a clock returns, and what it leaves.
-use Rattle.std.specs.Prelude.{ℕ, ◌<◌, ◌≤◌, ◌⊎◌, Err, pos, Bool, true, false, List, [], ◌∷◌, ◌≡◌, All, map, is_some, IfNone, IfSome}
-use Rattle.std.specs.Duration.{as_nanos}
+-- What an expression that runs or is read until a moment of a clock returns, and what it leaves.
+use Rattle.std.specs.Prelude.{ℕ, ◌<◌, ◌≤◌, ◌⊎◌, Err, pos, Bool, true, false, List, [], ◌∷◌, ◌≡◌, All, map, is_some, IfNone, IfSome, ◌+◌, min, string_bytes}
+use Rattle.std.specs.Duration.{as_nanos, max_nanos}
 use Rattle.std.specs.declared.time.Duration.{Duration}
 use Rattle.std.specs.declared.result.Result.{Result}
 use Rattle.std.specs.declared.alloc.Global.{Global}
 use Rattle.std.specs.declared.option.Option.{Option}
 use Rattle.std.specs.declared.sync.Arc.{Arc}
+use Rattle.std.specs.Str.{IsUtf8}
+use Rattle.std.specs.declared.string.String.{String}
 use Rattle.duct_base.specs.Pool.{PoolView}
 use Rattle.duct_system.specs.declared.error.Error.TheVariants as error
 use Rattle.duct_system.specs.declared.system.Fault.{Fault}
-use Rattle.duct_system.specs.Child.{ChildView, Obeyed, Answer}
+use Rattle.duct_system.specs.Child.{ChildView, Obeyed}
 use Rattle.duct_system.specs.declared.error.Error.{Error}
 use Rattle.duct_system.specs.declared.system.Kind.TheVariants.{OutOfMemory}
 use Rattle.duct_system.specs.declared.system.Order.{Order}
 use Rattle.duct_system.specs.declared.system.Order.TheVariants.{Kill, Signal}
 use Rattle.duct_system.specs.EntryView.{EntryView}
-use Rattle.duct_system.specs.Started.{children_in}
+use Rattle.duct_system.specs.Started.{children_in, drains_in}
 use Rattle.duct_system.specs.declared.system.Output.{Output}
+use Rattle.duct_system.specs.declared.system.Said.{Said}
+use Rattle.duct_system.specs.declared.system.Said.TheVariants as said
 use Rattle.duct_status.specs.ShapeView.{ShapeView, shape_view}
 use Rattle.duct_start.specs.Running.{RunningView}
-use Rattle.duct_start.specs.Chain.{Allows}
+use Rattle.duct_start.specs.Chain.{Allows, Refuses}
 use Rattle.duct_start.specs.Left.{TakesIn, pool_view}
 use Rattle.duct_start.specs.Plan.{plan_of}
 use Rattle.duct_start.specs.ShapeOfTree.{shape_of_tree}
 use Rattle.duct_start.specs.Start.{StartSucceeds}
-use Rattle.duct_start.specs.TreeView.{TreeView}
+use Rattle.duct_start.specs.TreeView.{TreeView, around, stdout_capture}
 use Rattle.duct_run.specs.SystemViews.{SystemViews}
 use Rattle.duct_running.specs.Allowed.{OneRuns}
 use Rattle.duct_running.specs.Answered.{IsConcludedPoll}
@@ -35,12 +39,14 @@ use Rattle.duct_running.specs.Polled.{ReturnsOutcome}
 use Rattle.duct_running.specs.PolledOnce.{PolledOnce}
 use Rattle.duct_handle.specs.Started.{AreNumbers}
 use Rattle.duct_handle.specs.Waited.{at_end}
-use Rattle.duct.specs.Launched.{MadeBy, Returns, Runs, StartKind, added_between, draining, drains_error, drains_output}
+use Rattle.duct_reader.specs.Trimmed.{trimmed}
+use Rattle.duct.specs.Launched.{MadeBy, Returns, Runs, StartKind, added_between, draining, drains_error, drains_output, Fails, Launched, RunFailed}
 use Rattle.duct.specs.TreeView.{tree_view}
 use Rattle.duct.specs.declared.expression.Expression.{Expression}
 use Rattle.duct_tasks.specs.declared.late.Late.{Late}
 use Rattle.duct_tasks.specs.declared.late.Until.{Until}
 use Rattle.duct_tasks.specs.declared.late.Until.TheVariants as until
+use Rattle.duct_tasks.specs.declared.late.LateRead.{LateRead}
 
 -- the clock may show this many nanoseconds or more
 abbrev pub HasReached : (Duration → Type 0) → ℕ → Type 0
@@ -49,18 +55,6 @@ HasReached shows nanos = (moment : Duration) × shows moment × (nanos ≤ as_na
 -- the clock may show less than this many nanoseconds
 abbrev pub HasShownLess : (Duration → Type 0) → ℕ → Type 0
 HasShownLess shows nanos = (moment : Duration) × shows moment × (as_nanos moment < nanos)
-
-module _ {S E C F D : Type 0} (views : SystemViews S E C F D (Unit {0}) Bytes) where
-  -- one of these numbers may say that it runs, or a fault was concluded from what they may return
-  abbrev pub MayRun : ShapeView → NumbersView → Type 0
-  MayRun shape numbers =
-      OneRuns views numbers
-      ⊎ ((fault : Fault) × IsConcludedPoll views.may_answer views.feed_says views.drain_says
-      shape numbers (Err (error.System fault)))
-
-  -- the same of a running expression
-  abbrev pub HasNotEnded : RunningView C F D → Type 0
-  HasNotEnded running = MayRun (shape_view running.shape) (numbers_of views running)
 
 module _ (may : ℕ → Order → Bool → Obeyed → Type 0) where
   -- the one order of a child is signal 15, with a result that it may return; or it has no order,
@@ -80,11 +74,6 @@ module _ (may : ℕ → Order → Bool → Obeyed → Type 0) where
       (signalled : List ChildView) × All IsSignalled signalled
       × IsOrdered may Kill signalled killed children
 
-module _ {S E C F D V W : Type 0} (views : SystemViews S E C F D V W) where
-  -- the children of what runs were sent signal 15 alone
-  abbrev pub AreSignalled : RunningView C F D → Type 0
-  AreSignalled running = All (IsSignalled views.may_obey) (map views.child running.children)
-
 -- it ended in time, and this holds of what it returned; or it was late
 abbrev pub IfDone : {T L : Type 0} → Until T L → (T → Type 0) → Type 0
 IfDone (until.Done value) holds = holds value
@@ -100,17 +89,22 @@ abbrev pub UnlessEnded : Option (Result (Arc Output Global) Error) → Type 0 �
 UnlessEnded ended holds =
     IfNone ended holds × IfSome ended (λ how. at_end how ≡ Err error.Memory → holds)
 
--- the pool was given each child that the entries name, in order; each was sent signal 15 and then
--- killed, with this as the result
-abbrev pub LeavesStopped : {C : Type 0} → (ℕ → Answer → Type 0)
-    → (ℕ → Order → Bool → Obeyed → Type 0) → (C → ChildView) → Result (Unit {0}) Error
-    → List EntryView → PoolView C → PoolView C → Type 0
-LeavesStopped may obey view killed added before after =
-    (given : List ChildView) × (map (λ child. child.number) given ≡ children_in added)
-    × AreStopped obey killed given
-    × TakesIn may given (pool_view view before) (pool_view view after)
-
 module _ {S E C F D : Type 0} (views : SystemViews S E C F D (Unit {0}) Bytes) where
+  -- one of these numbers may say that it runs, or a fault was concluded from what they may return
+  abbrev pub MayRun : ShapeView → NumbersView → Type 0
+  MayRun shape numbers =
+      OneRuns views numbers
+      ⊎ ((fault : Fault) × IsConcludedPoll views.may_answer views.feed_says views.drain_says
+      shape numbers (Err (error.System fault)))
+
+  -- the same of a running expression
+  abbrev pub HasNotEnded : RunningView C F D → Type 0
+  HasNotEnded running = MayRun (shape_view running.shape) (numbers_of views running)
+
+  -- the children of what runs were sent signal 15 alone
+  abbrev pub AreSignalled : RunningView C F D → Type 0
+  AreSignalled running = All (IsSignalled views.may_obey) (map views.child running.children)
+
   -- what was launched had ended when it was polled for the first time
   abbrev pub EndedAtOnce : {H : Type 0} → MadeBy E H
   EndedAtOnce kind tree added =
@@ -131,7 +125,7 @@ module _ {S E C F D : Type 0} (views : SystemViews S E C F D (Unit {0}) Bytes) w
   pub record IsLate {H : Type 0} (late : Late) (kind : StartKind) (tree : TreeView E H)
       (added : List EntryView) (numbers : NumbersView) : Type 0 where
     pub are_numbers : AreNumbers (drains_output kind tree) (drains_error kind tree) added numbers
-    pub may_run : MayRun views (shape_of_tree tree) numbers
+    pub may_run : MayRun (shape_of_tree tree) numbers
     pub ended : IfSome late.ended (λ ended. IsConcludedPoll views.may_answer views.feed_says
         views.drain_says (shape_of_tree tree) numbers (at_end ended))
 
@@ -141,6 +135,15 @@ module _ {S E C F D : Type 0} (views : SystemViews S E C F D (Unit {0}) Bytes) w
       IsLate late kind tree added (numbers_of views running)
       × AreStopped views.may_obey late.killed (map views.child running.children)
 
+  -- the pool was given each child that the entries name, in order; each was sent signal 15 and
+  -- then killed, with this as the result
+  abbrev pub LeavesStopped : Result (Unit {0}) Error → List EntryView → PoolView C → PoolView C
+      → Type 0
+  LeavesStopped killed added before after =
+      (given : List ChildView) × (map (λ child. child.number) given ≡ children_in added)
+      × AreStopped views.may_obey killed given
+      × TakesIn views.may_answer given (pool_view views.child before) (pool_view views.child after)
+
   -- a start that succeeded and was late: its requests are its plan, and the pool was given its
   -- children, each of which was sent signal 15 and then killed
   pub record LaunchStopped {H : Type 0} (allows : Allows H) (root : Expression E H) (sys after : S)
@@ -149,5 +152,62 @@ module _ {S E C F D : Type 0} (views : SystemViews S E C F D (Unit {0}) Bytes) w
         (views.journal sys) (views.journal after)
     pub is_late : (numbers : NumbersView)
         × IsLate late draining (tree_view root) (added_between views sys after) numbers
-    pub given : LeavesStopped views.may_answer views.may_obey views.child late.killed
-        (added_between views sys after) before left
+    pub given : LeavesStopped late.killed (added_between views sys after) before left
+
+-- the last moment of a read, in nanoseconds: a second after the grace, or the greatest moment
+abbrev pub last_read : ℕ → ℕ → ℕ
+last_read moment grace = min (min (moment + grace) max_nanos + 1_000_000_000) max_nanos
+
+-- an expression inside one more capture of stdout
+abbrev pub IsCaptured : {E H : Type 0} → Expression E H → Expression E H → Type 0
+IsCaptured root captured = tree_view captured ≡ around stdout_capture (tree_view root)
+
+-- the worker that is the first of these returns the bytes; where there are none, the clock showed
+-- this many nanoseconds or more, or the worker failed, or there is none
+abbrev pub ReadsFirst : {T : Type 0} → (ℕ → Said T → Type 0) → (Duration → Type 0) → ℕ → List ℕ
+    → Option T → Type 0
+ReadsFirst says shows nanos workers read =
+    IfSome read (λ bytes. (number : ℕ) × (others : List ℕ) × (workers ≡ number ∷ others)
+    × says number (said.Done bytes))
+    × IfNone read ((workers ≡ []) ⊎ HasReached shows nanos
+    ⊎ ((number : ℕ) × (others : List ℕ) × (workers ≡ number ∷ others)
+    × (fault : Fault) × says number (said.Fault fault)))
+
+module _ {S E C F D : Type 0} (views : SystemViews S E C F D (Unit {0}) Bytes) {H : Type 0}
+    (allows : Allows H) (shows : Duration → Type 0) (nanos : ℕ) where
+  -- the captured expression ended in time, and this holds of the bytes that it wrote to stdout
+  pub record Captured (root : Expression E H) (sys after : S) (before left : PoolView C)
+      (holds : List ℕ → Type 0) : Type 0 where
+    pub captured : Expression E H
+    pub is_captured : IsCaptured root captured
+    pub output : Output
+    pub launched : Launched views allows draining captured sys after before left
+        (ReturnsInTime views shows nanos output)
+    pub bytes : holds output.stdout.items
+
+  -- the captured expression ran, and the text is what it wrote to stdout, without the line ends at
+  -- its end
+  abbrev pub PrintsText : Expression E H → S → S → PoolView C → PoolView C → String Global → Type 0
+  PrintsText root sys after before left text =
+      Captured root sys after before left (λ bytes. string_bytes text ≡ trimmed bytes)
+
+  -- the captured expression was stopped; the bytes that were read until this moment, if there are
+  -- any, are those of the first capture worker of the entries, which is that of stdout
+  pub record ReadStopped (root : Expression E H) (sys after : S) (before left : PoolView C)
+      (late : LateRead) : Type 0 where
+    pub captured : Expression E H
+    pub is_captured : IsCaptured root captured
+    pub stopped : LaunchStopped views allows captured sys after before left late.late
+    pub read : ReadsFirst views.drain_says shows nanos
+        (drains_in (added_between views sys after)) late.read
+
+  -- there was no memory for the capture, and nothing was started; or the captured expression failed
+  -- to start or to run; or it ran, and the bytes without the line ends at their end are not UTF-8
+  abbrev pub ReadFailed : Refuses H → Expression E H → S → S → PoolView C → PoolView C → Error
+      → Type 0
+  ReadFailed refuses root sys after before left e =
+      ((e ≡ error.Memory) × (after ≡ sys) × (left ≡ before))
+      ⊎ ((captured : Expression E H) × IsCaptured root captured
+      × RunFailed views allows refuses draining captured sys after before left (Fails views) e)
+      ⊎ ((e ≡ error.NotUtf8) × Captured root sys after before left
+      (λ bytes. IsUtf8 (trimmed bytes) → ⊥))

@@ -1,8 +1,7 @@
 //! Attempts at starts and runs of an expression.
 ghost use Rattle.std.specs.Prelude.{◌<◌};
 ghost use Rattle.std.specs.Fn.{FnReturnsAt};
-ghost use Rattle.duct_tasks.specs.Attempts.{Attempts};
-ghost use Rattle.duct_tasks.specs.Expressions.{IsRun, IsStart};
+ghost use Rattle.duct_tasks.specs.Turns.{Attempts, IsRun, IsStart};
 
 use crate::repeated::attempts;
 use duct::{Error, Expression, Handle, Hook, Output, Pool, System};

@@ -1,6 +1,6 @@
 //! An expression that is started again each time that it ends.
 ghost use Rattle.std.specs.Prelude.{◌≡◌, true, false};
-ghost use Rattle.duct_tasks.specs.Kept.{Keeps, WhyAfter, last_of};
+ghost use Rattle.duct_tasks.specs.Turns.{Keeps, WhyAfter, last_of};
 ghost use Rattle.duct_tasks.specs.declared.keeper.Why.TheVariants.{GaveUp};
 
 use crate::many::Progress;

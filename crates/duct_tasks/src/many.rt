@@ -1,5 +1,5 @@
 //! Tasks of which only so many run at once.
-ghost use Rattle.std.specs.Prelude.{◌≡◌, ◌<◌, ◌≤◌, ◌⊎◌, [], length, IfErr, IfOk};
+ghost use Rattle.std.specs.Prelude.{◌≡◌, ◌<◌, ◌≤◌, ◌⊎◌, length, IfErr, IfOk};
 ghost use Rattle.duct_system.specs.declared.error.Error.TheVariants.{Memory};
 ghost use Rattle.duct_tasks.specs.Turns.{Goes, GoesOn, RanAll};
 

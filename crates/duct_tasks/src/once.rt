@@ -4,8 +4,7 @@ ghost use Rattle.duct_base.specs.Pool.{counted};
 ghost use Rattle.duct_system.specs.declared.error.Error.{Error};
 ghost use Rattle.duct_running.specs.Answered.{ReturnsConclusion};
 ghost use Rattle.duct_handle.specs.Waited.{at_end};
-ghost use Rattle.duct_tasks.specs.Kept.{IsOver, Runs, StoppedIf, last_of};
-ghost use Rattle.duct_tasks.specs.Turns.{RunsAlike, gives};
+ghost use Rattle.duct_tasks.specs.Turns.{IsOver, Runs, StoppedIf, last_of, RunsAlike, gives};
 
 use crate::many::Progress;
 use crate::task::{is_failure, spend};

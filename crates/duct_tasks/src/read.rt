@@ -3,8 +3,7 @@ ghost use Rattle.std.specs.Prelude.{◌+◌, ◌⊎◌, map, min, IfErr, IfNone,
 ghost use Rattle.std.specs.Duration.{as_nanos, max_nanos};
 ghost use Rattle.duct_system.specs.declared.system.Fault.{Fault};
 ghost use Rattle.duct_system.specs.declared.system.Said.TheVariants as said;
-ghost use Rattle.duct_tasks.specs.Until.{HasReached, IfDone, IfLate, UnlessEnded};
-ghost use Rattle.duct_tasks.specs.ReadUntil.{PrintsText, ReadFailed, ReadStopped, ReadsFirst, last_read};
+ghost use Rattle.duct_tasks.specs.Until.{HasReached, IfDone, IfLate, UnlessEnded, PrintsText, ReadFailed, ReadStopped, ReadsFirst, last_read};
 
 use crate::late::{LateRead, Until};
 use crate::run::launch_until;

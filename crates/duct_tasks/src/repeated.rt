@@ -1,7 +1,7 @@
 //! Attempts at anything that borrows a system and a pool.
 ghost use Rattle.std.specs.Prelude.{◌<◌};
 ghost use Rattle.std.specs.Fn.{FnReturnsAt};
-ghost use Rattle.duct_tasks.specs.Attempts.{Attempts, FnReturnsAtPairMut};
+ghost use Rattle.duct_tasks.specs.Turns.{Attempts, FnReturnsAtPairMut};
 
 /// Calls `attempt`, and again each time that it fails with an error that `is_transient` calls
 /// transient, at most `most` times in all. Returns what the last call returned. It doesn't pause

@@ -6,8 +6,7 @@ use Rattle.std.specs.declared.result.Result.{Result}
 use Rattle.duct_system.specs.declared.error.Error.{Error}
 use Rattle.duct_run.proofs.Seeing.{views_of}
 use Rattle.duct_handle.specs.HandleView.{HandleView}
-use Rattle.duct_tasks.specs.Attempts.{FailsFor}
-use Rattle.duct_tasks.specs.Expressions.{IsStart}
+use Rattle.duct_tasks.specs.Turns.{FailsFor, IsStart}
 use Rattle.duct_tasks.proofs.expression.start_attempts.Goals as goal
 
 pub loop-init : goal.loop-init

@@ -3,8 +3,7 @@ use Rattle.std.specs.Fn.{FnReturnsAt}
 use Rattle.std.specs.List.{FoldsTo}
 use Rattle.duct_system.specs.declared.error.Error.{Error}
 use Rattle.duct_run.proofs.Seeing.{views_of}
-use Rattle.duct_tasks.specs.Attempts.{FailsFor}
-use Rattle.duct_tasks.specs.Expressions.{IsStart}
+use Rattle.duct_tasks.specs.Turns.{FailsFor, IsStart}
 use Rattle.duct_tasks.proofs.expression.start_attempts.Given as goal
 
 abbrev pub invariant-loop : goal.invariant-loop

@@ -1,7 +1,7 @@
 use Rattle.std.specs.Prelude.{Bool}
 use Rattle.std.proofs.Common.{arith, refl, subst, sym}
 use Rattle.duct_run.proofs.Seeing.{views_of}
-use Rattle.duct_tasks.specs.Kept.{IsWhy}
+use Rattle.duct_tasks.specs.Turns.{IsWhy}
 use Rattle.duct_tasks.specs.declared.keeper.Why.{Why}
 use Rattle.duct_tasks.specs.declared.keeper.Why.TheVariants.{Stopped}
 use Rattle.duct_tasks.proofs.Keeping.{ends, goes_on, nothing, over}

@@ -1,5 +1,5 @@
 use Rattle.duct_run.proofs.Seeing.{views_of}
-use Rattle.duct_tasks.specs.Kept.{last_of}
+use Rattle.duct_tasks.specs.Turns.{last_of}
 use Rattle.duct_tasks.proofs.Keeping.{ran_on}
 use Rattle.duct_tasks.proofs.Turning.{goes_to, launched, refused}
 use Rattle.duct_tasks.proofs.once.run_once.Goals as goal

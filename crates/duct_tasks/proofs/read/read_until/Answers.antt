@@ -7,7 +7,7 @@ use Rattle.duct_run.proofs.Seeing.{views_of}
 use Rattle.duct_running.specs.NumbersView.{numbers_of}
 use Rattle.duct.specs.Launched.{added_between, draining}
 use Rattle.duct.specs.TreeView.{tree_view}
-use Rattle.duct_tasks.specs.ReadUntil.{ReadsFirst, last_read}
+use Rattle.duct_tasks.specs.Until.{ReadsFirst, last_read}
 use Rattle.duct_tasks.proofs.Ending.{first_drain, gives_stopped}
 use Rattle.duct_tasks.proofs.read.read_until.Goals as goal
 

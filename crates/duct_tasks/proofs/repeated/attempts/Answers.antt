@@ -3,7 +3,7 @@ use Rattle.std.proofs.lemmas.Fn.{FoldsTo-push}
 use Rattle.std.specs.Prelude.{◌⊎◌, false, Err, Ok, IfErr}
 use Rattle.std.specs.Fn.{FnReturnsAt}
 use Rattle.std.specs.declared.result.Result.{Result}
-use Rattle.duct_tasks.specs.Attempts.{FailsFor, FnReturnsAtPairMut}
+use Rattle.duct_tasks.specs.Turns.{FailsFor, FnReturnsAtPairMut}
 use Rattle.duct_tasks.proofs.repeated.attempts.Goals as goal
 
 pub loop-init : goal.loop-init

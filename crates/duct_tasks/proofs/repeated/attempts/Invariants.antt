@@ -1,7 +1,7 @@
 use Rattle.std.proofs.Common.{◌≡◌, ◌+◌, List, length}
 use Rattle.std.specs.Fn.{FnReturnsAt}
 use Rattle.std.specs.List.{FoldsTo}
-use Rattle.duct_tasks.specs.Attempts.{FailsFor, FnReturnsAtPairMut}
+use Rattle.duct_tasks.specs.Turns.{FailsFor, FnReturnsAtPairMut}
 use Rattle.duct_tasks.proofs.repeated.attempts.Given as goal
 
 abbrev pub invariant-loop : goal.invariant-loop
