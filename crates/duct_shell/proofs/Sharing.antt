@@ -42,7 +42,6 @@ use Rattle.duct_reader.specs.contracts.reader.ReaderHandle
 use Rattle.duct_host.specs.contracts.child.Child
 use Rattle.duct_host.specs.contracts.child.Seen
 use Rattle.duct_host.specs.contracts.end.End
-use Rattle.duct_host.specs.contracts.host.Host
 use Rattle.duct_host.specs.contracts.reader.Reader
 
 -- a reference to the machine's runtime

@@ -70,14 +70,9 @@ pub fn run_captured<S: System, H: Hook>(
     ensures failed { IfErr result (CaptureFails ⟦<S as Viewed>⟧.views H.allows H.refuses
         expression.now system.old system.new pool.old pool.new) }
 {
-    let root = with_captures(expression)?;
-    match root.run(rt, system, pool) {
-        Ok(output) => Ok(Captured {
-            output,
-            command: command_of(expression.root()),
-        }),
-        Err(error) => Err(error),
-    }
+    let output = with_captures(expression)?.run(rt, system, pool)?;
+    let command = command_of(expression.root());
+    Ok(Captured { output, command })
 }
 
 impl<S: System, R: Wait, H: Hook> Shell<S, R, H> {

@@ -59,8 +59,7 @@ impl error::Error for Failure {}
 
 impl From<Error> for Failure {
     fn from(error: Error) -> Failure
-        ensures error { result.error ≡ error }
-        ensures request { result.request ≡ None }
+        ensures { result ≡ record { error = error; request = None } }
     {
         Failure {
             error,
@@ -71,8 +70,7 @@ impl From<Error> for Failure {
 
 impl From<AllocError> for Failure {
     fn from(_error: AllocError) -> Failure
-        ensures error { result.error ≡ Memory }
-        ensures request { result.request ≡ None }
+        ensures { result ≡ record { error = Memory; request = None } }
     {
         Failure::from(Error::Memory)
     }
@@ -80,8 +78,7 @@ impl From<AllocError> for Failure {
 
 impl<T: Drop> From<AllocFailed<T>> for Failure {
     fn from(_error: AllocFailed<T>) -> Failure
-        ensures error { result.error ≡ Memory }
-        ensures request { result.request ≡ None }
+        ensures { result ≡ record { error = Memory; request = None } }
     {
         Failure::from(Error::Memory)
     }
@@ -89,8 +86,7 @@ impl<T: Drop> From<AllocFailed<T>> for Failure {
 
 impl From<Fault> for Failure {
     fn from(fault: Fault) -> Failure
-        ensures error { result.error ≡ System fault }
-        ensures request { result.request ≡ None }
+        ensures { result ≡ record { error = System fault; request = None } }
     {
         Failure::from(Error::System(fault))
     }
@@ -112,13 +108,11 @@ impl From<Failure> for io::Error {
         ensures { error_kind result ≡ io_kind failure.error }
     {
         let kind = io_kind(&failure.error);
-        if let Some(request) = &failure.request {
-            return io::Error::new(kind, request.as_str());
+        match (&failure.request, &failure.error) {
+            (Some(request), _) => io::Error::new(kind, request.as_str()),
+            (None, Error::Checked(message)) => io::Error::new(kind, message.as_str()),
+            (None, _) => io::Error::from(kind),
         }
-        if let Error::Checked(message) = &failure.error {
-            return io::Error::new(kind, message.as_str());
-        }
-        io::Error::from(kind)
     }
 }
 

@@ -52,10 +52,9 @@ pub fn ended<S: System, R: Wait>(
     ensures { EndsFor ⟦<S as Viewed>⟧.views handle.now read result }
 {
     match read {
-        Ok(()) => match handle.try_wait()? {
-            Some(output) => Ok(output),
-            None => Err(Error::System(Fault::new(Kind::Other))),
-        },
+        Ok(()) => handle
+            .try_wait()?
+            .ok_or(Error::System(Fault::new(Kind::Other))),
         Err(error) => {
             if error.kind() == ErrorKind::Other {
                 handle.try_wait()?;

@@ -10,7 +10,7 @@ ghost use Rattle.duct_start.specs.Plan.{Plan};
 ghost use Rattle.duct_start.specs.Start.{StartRefused};
 ghost use Rattle.duct_start.specs.TreeView.{TreeView};
 ghost use Rattle.duct_tree.specs.Text.{printed};
-ghost use Rattle.duct_shell.specs.EntryForm.{arguments_form, entry_form, fault_form, kind_name, request_form, spawn_form};
+ghost use Rattle.duct_shell.specs.EntryForm.{arguments_form, entry_form, kind_name, request_form, spawn_form};
 ghost use Rattle.duct_shell.specs.FailedRequest.{Explains, IsTextOf, failed_request, last_asked};
 
 use duct_system::error::Error;
@@ -29,11 +29,8 @@ pub fn failed_request(entries: &[Entry]) -> Option<&Entry>
         ≡ failed_request (map entry_view entries.now) }
 {
     let last = last_asked(entries)?;
-    if fault_of(last).is_some() {
-        Some(last)
-    } else {
-        None
-    }
+    fault_of(last)?;
+    Some(last)
 }
 
 /// The law of failed starts with ends of type `E` and hooks of type `H`. It does nothing: its
@@ -152,7 +149,7 @@ fn write_entry<W: fmt::Write>(entry: &Entry, f: &mut fmt::Formatter<W>) -> fmt::
 {
     write_request(entry, f)?;
     match fault_of(entry) {
-        Some(fault) => write_fault(fault, f),
+        Some(fault) => write!(f, ": {}", kind_name(fault.kind)),
         None => Ok(()),
     }
 }
@@ -208,15 +205,6 @@ pub fn write_arguments<W: fmt::Write>(
         write!(f, " {argument:?}")?;
     }
     Ok(())
-}
-
-// Writes a colon and the kind of a fault.
-fn write_fault<W: fmt::Write>(fault: Fault, f: &mut fmt::Formatter<W>) -> fmt::Result
-    ensures { DisplaysOnOk W.write_str_gives f.old result
-        (printed (fault_form (Some fault))) f.new }
-{
-    let name = kind_name(fault.kind);
-    write!(f, ": {name}")
 }
 
 // Returns the name of a kind of fault.

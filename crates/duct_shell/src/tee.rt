@@ -73,19 +73,6 @@ impl<R: Read, W: Write> Tee<'_, R, W> {
         Err(io::Error::from(ErrorKind::TimedOut))
     }
 
-    // Writes the bytes, unless an error has ended the copy.
-    fn copy_on(&mut self, bytes: &[u8])
-        ensures reader { self.new.reader ≡ self.old.reader }
-        ensures same_reference { self.new.copy.inner.ghost_name ≡ self.old.copy.inner.ghost_name }
-        ensures copied { Copies (W.contents self.old.copy.inner.now)
-            (W.contents self.new.copy.inner.now) bytes.now
-            self.old.copy.stopped self.new.copy.stopped }
-    {
-        if self.copy.stopped().is_none() {
-            write_whole(&mut self.copy, bytes);
-        }
-    }
-
     // Reads once, with room made before, and appends what was read.
     fn read_more(&mut self, bytes: &mut Vec<u8>) -> io::Result<usize>
         ensures same_reference { self.new.copy.inner.ghost_name ≡ self.old.copy.inner.ghost_name }
@@ -121,7 +108,9 @@ impl<R: Read, W: Write> Read for Tee<'_, R, W> {
             self.old.copy.stopped self.new.copy.stopped) }
     {
         let read = read_retried(&mut self.reader, buf)?;
-        self.copy_on(&buf[..read]);
+        if self.copy.stopped().is_none() {
+            write_whole(&mut self.copy, &buf[..read]);
+        }
         Ok(read)
     }
 }
