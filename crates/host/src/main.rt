@@ -17,15 +17,9 @@ fn main(rt: HostRuntime) -> ExitCode {
     let mut err = rt.stderr();
     let status = match arguments(&rt) {
         Ok(words) => {
-            let mut host = Host::new(&rt, rt.alloc());
-            perform(
-                &rt,
-                rt.alloc(),
-                &mut host,
-                words.as_slice(),
-                &mut out,
-                &mut err,
-            )
+            let (alloc, words) = (rt.alloc(), words.as_slice());
+            let mut host = Host::new(&rt, alloc);
+            perform(&rt, alloc, &mut host, words, &mut out, &mut err)
         }
         Err(error) => PROGRAM.tell_error(&mut err, &error, 2, "host: argument is not UTF-8\n"),
     };

@@ -12,8 +12,7 @@ use duct_replay::{Records, Variables, recording_text};
 use duct_run::views::Viewed;
 use std::alloc::Global;
 use std::fs::{OpenFile, OpenOptions, Permissions};
-use std::io;
-use std::io::Write;
+use std::io::{self, Write};
 use std::os::unix::fs::{OpenOptionsExt, PermissionsExt};
 use std::rt::Files;
 use std::sync::Wait;
@@ -28,17 +27,6 @@ const USAGE: &str = "record: usage: trace record [--hide] JOURNAL -- WORD..\n";
 
 /// Who may read and write a journal: its owner.
 const OWNER: u32 = 0o600;
-
-/// Whether values of variables are written, the path of the journal, and the words of `host`.
-/// Returns `None` if the arguments aren't those of the program.
-fn asked(arguments: &[String]) -> Option<(Variables, &str, &[String])> {
-    let (variables, arguments) = match arguments.split_first() {
-        Some((first, others)) if first.as_str() == "--hide" => (Variables::Hidden, others),
-        Some(_) | None => (Variables::Shown, arguments),
-    };
-    let (path, words) = path_and_words(arguments)?;
-    Some((variables, path, words))
-}
 
 /// Makes the file of a journal, or empties it if it is there. If it is a regular file, it is then
 /// its owner's alone. Fails, with what was there unchanged, if the file can't be written.
@@ -60,7 +48,11 @@ pub fn recorded<R: Files + Wait + AllocGlobal, S: Records, O: Write, E: Write>(
     out: &mut O,
     err: &mut E,
 ) -> u8 {
-    let Some((variables, path, words)) = asked(arguments) else {
+    let (variables, arguments) = match arguments.split_first() {
+        Some((first, others)) if first.as_str() == "--hide" => (Variables::Hidden, others),
+        Some(_) | None => (Variables::Shown, arguments),
+    };
+    let Some((path, words)) = path_and_words(arguments) else {
         return PROGRAM.tell(err, 2, USAGE);
     };
     match journal_file(rt, path) {

@@ -1,0 +1,196 @@
+//! The commands that run the start of the words again, over what `trace record` wrote: with no
+//! process and no file.
+ghost use Rattle.std.specs.Prelude.{◌≡◌, ◌≢◌, ◌≤◌, [], map, string_bytes, codes, None};
+ghost use Rattle.std.specs.Io.KnownBytes.{Appends};
+ghost use Rattle.duct_system.specs.EntryView.{entry_view};
+ghost use Rattle.duct_program.specs.Answered.{WritesText, WritesUsage, line_of};
+ghost use Rattle.duct_program.specs.Parsed.{RefusesAs};
+ghost use Rattle.duct_program.specs.declared.usage.Usage.{Usage};
+ghost use Rattle.duct_replay.specs.Judged.{IsRight};
+ghost use Rattle.duct_replay.specs.Replays.{ReplayView};
+ghost use Rattle.duct_replay.specs.declared.judgement.Verdict.{Verdict};
+ghost use Rattle.duct_replay.specs.declared.judgement.Verdict.TheVariants.{Yes};
+ghost use Rattle.trace.specs.JudgedLine.{IsJudged};
+
+use duct::{Entry, Expression, Hook, Numbered, System};
+use duct_program::{NoHook, Program, Usage, line, path_and_words, perform, text_at};
+use duct_replay::{
+    Recording, Refusal, Replay, ReplayEnd, ReplayReader, Verdict, judge, read_recording,
+};
+use duct_run::views::Viewed;
+use duct_shell::RequestText;
+use std::alloc::{AllocError, Global};
+use std::io::{Read, Write};
+use std::rt::Files;
+use std::sync::Wait;
+
+/// A command that reads what `trace record` wrote, and what it says where that can't be read.
+pub struct Reading {
+    program: Program,
+    name: &'static str,
+    usage: &'static str,
+    unread: &'static str,
+}
+
+pub const JUDGE: Reading = Reading {
+    program: Program {
+        no_memory: "judge: out of memory\n",
+        failed: 3,
+    },
+    name: "judge",
+    usage: "judge: usage: trace judge JOURNAL -- WORD..\n",
+    unread: "judge: journal can't be read\n",
+};
+
+pub const REPLAY: Reading = Reading {
+    program: Program {
+        no_memory: "replay: out of memory\n",
+        failed: 3,
+    },
+    name: "replay",
+    usage: "replay: usage: trace replay FILE -- WORD..\n",
+    unread: "replay: recording can't be read\n",
+};
+
+/// Reads the recording that is named before the mark `--`. Returns it, and the words behind the
+/// mark; or the status, after it was said why there is none.
+pub fn recording_of<'a, R: Files + AllocGlobal, I: Read, E: Write>(
+    rt: &R,
+    stdin: &mut I,
+    reading: &Reading,
+    arguments: &'a [String],
+    err: &mut E,
+) -> Result<(Recording, &'a [String]), u8> {
+    let program = &reading.program;
+    let Some((path, words)) = path_and_words(arguments) else {
+        return Err(program.tell(err, 2, reading.usage));
+    };
+    let text = match text_at(rt, path, stdin) {
+        Ok(text) => text,
+        Err(error) => return Err(program.tell_error(err, &error, 2, reading.unread)),
+    };
+    match read_recording(rt.alloc(), text.as_str()) {
+        Ok(recording) => Ok((recording, words)),
+        Err(at) if at.refusal == Refusal::Memory => {
+            Err(program.tell(err, program.failed, program.no_memory))
+        }
+        Err(at) => {
+            let name = reading.name;
+            Err(program.tell_made(err, 2, format!(in rt.alloc(); "{name}: {at}\n")))
+        }
+    }
+}
+
+/// Judges these entries by the words of `host`: writes the verdict to `out`, with the status 0 for
+/// `yes` and else 1. An error in the words is written to `err`, and the status is 2; it is 3 at an
+/// allocation failure, which is said on `err`, and where a write fails.
+pub fn judge_line<O: Write, E: Write>(
+    alloc: Global,
+    words: &[String],
+    entries: &[Entry],
+    out: &mut O,
+    err: &mut E,
+) -> u8
+    ensures yes { result ≡ 0 → IsJudged ⟦<NoHook as Hook>⟧.allows ⟦<NoHook as Hook>⟧.refuses
+        ⟦<ReplayEnd as Numbered>⟧.number_of (map string_bytes words.now) (map entry_view entries.now)
+        (λ verdict. verdict ≡ Yes)
+        × Appends (O.contents out.old) (O.contents out.new) (codes "yes\n") × (err.new ≡ err.old) }
+    ensures no { result ≡ 1 → IsJudged ⟦<NoHook as Hook>⟧.allows ⟦<NoHook as Hook>⟧.refuses
+        ⟦<ReplayEnd as Numbered>⟧.number_of (map string_bytes words.now) (map entry_view entries.now)
+        (λ verdict. verdict ≢ Yes) × (err.new ≡ err.old) }
+    ensures usage { result ≡ 2 → (usage : Usage)
+        × RefusesAs usage (line_of
+        ⟦<ReplayEnd as Numbered>⟧.number_of ⟦<NoHook as Hook>⟧.allows (map string_bytes words.now))
+        × (out.new ≡ out.old) }
+    ensures status { result ≤ 3 }
+{
+    let program = JUDGE.program;
+    let expression: Expression<ReplayEnd, NoHook> = match line(alloc, words) {
+        Ok(expression) => expression,
+        Err(Usage::Memory) => return program.tell(err, 3, program.no_memory),
+        Err(usage) => return program.tell_made(err, 2, format!(in alloc; "judge: {usage}\n")),
+    };
+    let Ok((verdict, replay)) = judge(alloc, &expression, entries) else {
+        return program.tell(err, 3, program.no_memory);
+    };
+    if verdict == Verdict::Yes {
+        return program.tell(out, 0, "yes\n");
+    }
+    match no_line(alloc, verdict, entries, replay.journal()) {
+        Ok(line) => program.tell(out, 1, line.as_str()),
+        Err(_) => program.tell(err, 3, program.no_memory),
+    }
+}
+
+// Returns the line of a verdict, where the start made these entries.
+fn no_line(
+    alloc: Global,
+    verdict: Verdict,
+    recorded: &[Entry],
+    made: &[Entry],
+) -> Result<String, AllocError>
+    requires { IsRight verdict (map entry_view recorded.now) (map entry_view made.now) }
+{
+    match verdict {
+        Verdict::Yes => format!(in alloc; "yes\n"),
+        Verdict::Differs(place) => {
+            let (found, due) = (RequestText(&recorded[place]), RequestText(&made[place]));
+            format!(in alloc; "no: entry {place} differs: {found} in place of {due}\n")
+        }
+        Verdict::Ends(place) => {
+            let due = RequestText(&made[place]);
+            format!(in alloc; "no: ends where {due} was due\n")
+        }
+        Verdict::GoesOn(place) => format!(in alloc; "no: goes on at entry {place}\n"),
+    }
+}
+
+/// Does the work of `host` by `perform` over a replay of this recording, and returns its status. If
+/// a request differs from the recorded one, that is then said on `err`, and the status is 3. It
+/// blocks as `perform` does.
+pub fn replay<O: Write, E: Write>(
+    rt: &impl Wait,
+    alloc: Global,
+    recording: Recording,
+    args: &[String],
+    out: &mut O,
+    err: &mut E,
+) -> u8
+    ensures text { result ≡ 0 → (begun ended : ReplayView) × (begun.recording ≡ recording)
+        × (begun.journal.entries ≡ []) × (ended.difference ≡ None)
+        × WritesText ⟦<Replay as Viewed>⟧.views ⟦<NoHook as Hook>⟧.allows
+        ⟦<Replay as System>⟧.may_read ⟦<ReplayReader as Read>⟧.remaining O.contents
+        (map string_bytes args.now) begun ended out.old out.new err.old err.new }
+    ensures usage { result ≡ 2 → (begun ended : ReplayView) × (begun.recording ≡ recording)
+        × (begun.journal.entries ≡ []) × (ended.difference ≡ None)
+        × WritesUsage ⟦<Replay as Viewed>⟧.views ⟦<NoHook as Hook>⟧.allows
+        ⟦<Replay as System>⟧.may_read ⟦<ReplayReader as Read>⟧.remaining E.contents
+        (map string_bytes args.now) begun ended out.old out.new err.old err.new }
+    ensures status { result ≤ 3 }
+{
+    let mut replay = Replay::new(alloc, recording);
+    let status = perform(rt, alloc, &mut replay, args, out, err);
+    match replay.difference() {
+        None => status,
+        Some(place) => {
+            let line = difference_line(alloc, place, &replay);
+            REPLAY.program.tell_made(err, 3, line)
+        }
+    }
+}
+
+// Returns the line that says which request was made at this place, and which is recorded there.
+fn difference_line(alloc: Global, place: usize, replay: &Replay) -> Result<String, AllocError> {
+    let made = replay.journal().get(place);
+    match (made, replay.recording().entries().get(place)) {
+        (Some(made), Some(recorded)) => {
+            let (made, recorded) = (RequestText(made), RequestText(recorded));
+            format!(in alloc; "replay: entry {place} differs: {made} in place of {recorded}\n")
+        }
+        (Some(made), None) => {
+            let made = RequestText(made);
+            format!(in alloc; "replay: entry {place} differs: {made} behind the last one\n")
+        }
+        (None, _) => format!(in alloc; "replay: entry {place} differs\n"),
+    }
+}
