@@ -32,10 +32,7 @@ impl Failure {
         ensures error { result.error ≡ error }
         ensures request { Names (map entry_view added.now) result.request }
     {
-        let request = match request_text(alloc, added) {
-            Ok(request) => request,
-            Err(_) => None,
-        };
+        let request = request_text(alloc, added).unwrap_or(None);
         Failure { error, request }
     }
 }
@@ -58,9 +55,9 @@ impl fmt::Debug for Failure {
 impl error::Error for Failure {}
 
 impl From<Error> for Failure {
-    fn from(error: Error) -> Failure
-        ensures { result ≡ record { error = error; request = None } }
-    {
+    ghost from_gives = { λ error failure. failure ≡ record { error = error; request = None } };
+
+    fn from(error: Error) -> Failure {
         Failure {
             error,
             request: None,

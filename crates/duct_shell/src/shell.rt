@@ -192,10 +192,7 @@ impl<S: System, R, H: Drop> Shell<S, R, H> {
 fn after(journal: &[Entry], entries: usize) -> &[Entry]
     ensures { map entry_view result.now ≡ drop entries (map entry_view journal.now) }
 {
-    match journal.split_at_checked(entries) {
-        Some((_, added)) => added,
-        None => &[],
-    }
+    journal.get(entries..).unwrap_or(&[])
 }
 
 impl<S: System, R, H: Hook> Shell<S, R, H> {
@@ -328,10 +325,7 @@ impl<S: System, R: Wait, H: Hook> Shell<S, R, H> {
         ensures system { self.new.system ≡ self.old.system }
         ensures keeps { self.new.keeps_journal ≡ self.old.keeps_journal }
     {
-        match handle.into_output(&self.rt, &mut self.pool) {
-            Ok(output) => Ok(output),
-            Err(error) => Err(Failure::from(error)),
-        }
+        Ok(handle.into_output(&self.rt, &mut self.pool)?)
     }
 
     /// Kills what a handle runs, as `Handle::kill` does, and gives it up. It doesn't wait until
@@ -353,10 +347,7 @@ impl<S: System, R: Wait, H: Hook> Shell<S, R, H> {
     {
         let killed = handle.kill(&self.rt);
         self.give_up(handle);
-        match killed {
-            Ok(()) => Ok(()),
-            Err(error) => Err(Failure::from(error)),
-        }
+        Ok(killed?)
     }
 
     /// Runs an expression as `run` does, but for no longer than `limit`. Then each command that
