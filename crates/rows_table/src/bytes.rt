@@ -21,10 +21,10 @@ impl fmt::Display for Bytes<'_> {
 fn write_escaped<W: fmt::Write>(f: &mut fmt::Formatter<W>, text: &str) -> fmt::Result {
     for c in text.chars() {
         match c {
-            '\n' => write!(f, "\\n")?,
-            '\r' => write!(f, "\\r")?,
-            '\0' => write!(f, "\\0")?,
-            c => write!(f, "{c}")?,
+            '\n' => f.write_str("\\n")?,
+            '\r' => f.write_str("\\r")?,
+            '\0' => f.write_str("\\0")?,
+            c => f.write_char(c)?,
         }
     }
     Ok(())

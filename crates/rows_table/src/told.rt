@@ -60,24 +60,28 @@ struct Tracing<'a> {
 impl Tracing<'_> {
     fn push(&mut self, entry: &Entry) -> Result<(), TableError> {
         begin(self.text)?;
-        match entry {
-            Entry::Environment(_) => self.text.push_str("Environment")?,
-            Entry::Pipe(_) => self.text.push_str("Pipe")?,
-            Entry::OpenRead(path, _) => write!(self.text, "OpenRead {path}")?,
-            Entry::Create(path, _) => write!(self.text, "Create {path}")?,
-            Entry::Canonicalize(path, _) => write!(self.text, "Canonicalize {path}")?,
-            Entry::Spawn(spec, io, _) => self.push_spawn(spec, io)?,
-            Entry::Feed(end, bytes, _) => {
-                self.push_end("Feed", *end)?;
-                write!(self.text, " {:?}", bytes.as_slice())?;
-            }
-            Entry::Drain(end, _) => self.push_end("Drain", *end)?,
-            Entry::Reader(end) => self.push_end("Reader", *end)?,
-            Entry::Duplicate(_, _) | Entry::Parent(_, _) | Entry::Close(_) => {}
-        }
+        self.push_request(entry)?;
         match fault_of(entry) {
             Some(fault) => Ok(write!(self.text, " refused={:?}", fault.kind)?),
             None => Ok(()),
+        }
+    }
+
+    fn push_request(&mut self, entry: &Entry) -> Result<(), TableError> {
+        match entry {
+            Entry::Environment(_) => Ok(self.text.push_str("Environment")?),
+            Entry::Pipe(_) => Ok(self.text.push_str("Pipe")?),
+            Entry::OpenRead(path, _) => Ok(write!(self.text, "OpenRead {path}")?),
+            Entry::Create(path, _) => Ok(write!(self.text, "Create {path}")?),
+            Entry::Canonicalize(path, _) => Ok(write!(self.text, "Canonicalize {path}")?),
+            Entry::Spawn(spec, io, _) => self.push_spawn(spec, io),
+            Entry::Feed(end, bytes, _) => {
+                self.push_end("Feed", *end)?;
+                Ok(write!(self.text, " {:?}", bytes.as_slice())?)
+            }
+            Entry::Drain(end, _) => Ok(self.push_end("Drain", *end)?),
+            Entry::Reader(end) => Ok(self.push_end("Reader", *end)?),
+            Entry::Duplicate(_, _) | Entry::Parent(_, _) | Entry::Close(_) => Ok(()),
         }
     }
 
@@ -88,16 +92,20 @@ impl Tracing<'_> {
         }
         self.text.push_str(" ->")?;
         for stream in io {
-            match stream {
-                Stdio::Inherit => self.text.push_str(" inherit")?,
-                Stdio::Null => self.text.push_str(" null")?,
-                Stdio::End(end) => self.push_end("", *end)?,
-            }
+            self.push_stream(stream)?;
         }
         if let Some(folder) = spec.folder() {
             write!(self.text, " in {folder}")?;
         }
         push_variables(self.text, spec)
+    }
+
+    fn push_stream(&mut self, stream: &Stdio<u64>) -> Result<(), AllocError> {
+        match stream {
+            Stdio::Inherit => self.text.push_str(" inherit"),
+            Stdio::Null => self.text.push_str(" null"),
+            Stdio::End(end) => self.push_end("", *end),
+        }
     }
 
     /// Adds a word, and where the end with this number comes from.
