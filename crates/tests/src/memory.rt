@@ -102,12 +102,16 @@ fn is_right(made: Result<bool, Error>) -> bool {
     }
 }
 
+/// Makes a create, a kill and a spawn, after as many allocations as `SPEND` says.
+fn requested<R: Real>(rt: &R) -> [Result<bool, Error>; 3] {
+    spend(rt);
+    [created(rt, "created"), killed(rt), spawned(rt)]
+}
+
 /// Checks a create, a kill and a spawn.
 #[test]
 fn memory_of_requests(rt: HostRuntime) {
-    spend(&rt);
-    let made = [created(&rt, "created"), killed(&rt), spawned(&rt)];
-    for (number, made) in made.into_iter().enumerate() {
+    for (number, made) in requested(&rt).into_iter().enumerate() {
         assert!(rt; is_right(made), "{number}");
     }
 }
@@ -116,9 +120,7 @@ fn memory_of_requests(rt: HostRuntime) {
 /// fails.
 #[test]
 fn all_memory_is_there(rt: HostRuntime) {
-    spend(&rt);
-    let made = [created(&rt, "created"), killed(&rt), spawned(&rt)];
-    for (number, made) in made.into_iter().enumerate() {
+    for (number, made) in requested(&rt).into_iter().enumerate() {
         assert!(rt; made == Ok(true), "{number}");
     }
 }

@@ -5,7 +5,7 @@ ghost use Rattle.std.specs.Prelude.{◌≡◌};
 use duct::unix::HandleExt;
 use duct::{Clock, Error, ExitStatus, Handle, Output, Seen};
 use duct_script::{Answers, Call, CallLog, ChildScript, Gate, PollAnswer, Script};
-use rows_table::{Bench, TableError, push_turns, until, written};
+use rows_table::{Bench, TableError, push_turns, set_system, until, written};
 use std::alloc::{AllocError, Global};
 use std::sync::{Arc, Wait};
 use std::test::Fail;
@@ -107,12 +107,23 @@ fn child(alloc: Global, runs: usize, gate: &Gate) -> Result<ChildScript, AllocEr
     Ok(script)
 }
 
-/// A bench with two such commands, and a capture worker that returns `hi`.
+/// Sets two such commands, and a capture worker that returns `hi`.
+fn set_greeting(
+    alloc: Global,
+    sys: &mut Script,
+    runs: usize,
+    gate: &Gate,
+) -> Result<(), TableError> {
+    sys.child(child(alloc, runs, gate)?)?;
+    sys.child(child(alloc, runs, gate)?)?;
+    let _ = set_system(alloc, sys, "drains", "done hi")?;
+    Ok(())
+}
+
+/// A bench with these commands and this worker.
 fn greeting_bench(alloc: Global, runs: usize, gate: &Gate) -> Result<Bench, TableError> {
     let mut bench = Bench::new(alloc)?;
-    bench.sys.child(child(alloc, runs, gate)?)?;
-    bench.sys.child(child(alloc, runs, gate)?)?;
-    let _ = bench.set(alloc, "drains", "done hi")?;
+    set_greeting(alloc, &mut bench.sys, runs, gate)?;
     Ok(bench)
 }
 

@@ -4,35 +4,32 @@ use duct_base::system::{Job, Numbered, Said, System};
 use duct_script::{Gate, Gated, Script};
 use duct_worker::spawn::{spawn_drain, spawn_feed};
 use duct_worker::worker::Worker;
-use rows_table::{heard, set_system, until};
+use rows_table::{TableError, heard, set_system, until};
 use std::alloc::Global;
 use std::rt::Clock;
 use std::sync::Arc;
 use std::test::Fail;
 use std::thread::Threads;
 
-/// Starts a feed of three bytes and a drain of a scripted reader, which wait at a gate.
-fn workers_at_a_gate(
+/// Starts a drain of a scripted reader, which waits at a gate before each read.
+fn drain_at(
     rt: &impl Threads,
     alloc: Global,
     gate: &Gate,
-) -> Result<(Worker<()>, Worker<Arc<Vec<u8>>>), Fail> {
+) -> Result<Worker<Arc<Vec<u8>>>, TableError> {
+    let gate = gate.share()?;
     let mut sys = Script::new(alloc)?;
     let _ = set_system(alloc, &mut sys, "reads", "xy, z")?;
     let end = sys.open_read("f")?;
-    let (inner, gate_of_drain) = (sys.reader(end), gate.share()?);
-    let drain = spawn_drain(
-        rt,
-        alloc,
-        Gated {
-            gate: gate_of_drain,
-            inner,
-        },
-    )?;
-    let (inner, gate): (Vec<u8>, Gate) = (Vec::new(alloc), gate.share()?);
+    let inner = sys.reader(end);
+    Ok(spawn_drain(rt, alloc, Gated { gate, inner })?)
+}
+
+/// Starts a feed of three bytes, which waits at a gate before each write.
+fn feed_at(rt: &impl Threads, alloc: Global, gate: &Gate) -> Result<Worker<()>, TableError> {
     let bytes = Arc::new(alloc, Vec::from_slice(alloc, b"abc")?)?;
-    let feed = spawn_feed(rt, alloc, Gated { gate, inner }, bytes)?;
-    Ok((feed, drain))
+    let (inner, gate): (Vec<u8>, Gate) = (Vec::new(alloc), gate.share()?);
+    Ok(spawn_feed(rt, alloc, Gated { gate, inner }, bytes)?)
 }
 
 /// Whether a feed finishes, and a later poll says so again.
@@ -52,10 +49,14 @@ fn is_drained(rt: &impl Clock, drain: &mut Worker<Arc<Vec<u8>>>) -> bool {
 /// Whether the caller and each worker go on while a worker is blocked in a write and another in a
 /// read. Then opens their gate, and returns also whether each of them finishes, and a later poll
 /// returns the same.
-fn run_at_a_gate<R: Threads + Clock>(rt: &R, alloc: Global) -> Result<(bool, bool, bool), Fail> {
+fn run_at_a_gate<R: Threads + Clock>(
+    rt: &R,
+    alloc: Global,
+) -> Result<(bool, bool, bool), TableError> {
     let gate = Gate::new(alloc)?;
     gate.shut();
-    let (mut feed, mut drain) = workers_at_a_gate(rt, alloc, &gate)?;
+    let mut feed = feed_at(rt, alloc, &gate)?;
+    let mut drain = drain_at(rt, alloc, &gate)?;
     let stand = until(|| gate.standing() == 2);
     let run = matches!((feed.poll(), drain.poll()), (Said::Running, Said::Running));
     gate.open();
