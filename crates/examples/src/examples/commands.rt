@@ -97,47 +97,84 @@ fn told<S: System, R: Wait>(
     Ok(text)
 }
 
-#[test]
-fn commands_print(rt: HostRuntime) -> Result<(), Fail> {
-    let (alloc, mut system) = (rt.alloc(), Shell::new(&rt));
-    let listed = cmd(alloc, "echo", &["foo", "bar", "baz"])?; // prints foo bar baz
+/// Returns a command with an input, and one with arguments.
+fn given<E: Drop>(alloc: Global) -> Result<[Expression<E>; 2], Error> {
     let bytes = Vec::from_slice(alloc, b"foo")?;
     let fed = cmd!(in alloc; "cat")?.stdin_bytes(bytes)?; // prints foo
+    let listed = cmd(alloc, "echo", &["foo", "bar", "baz"])?; // prints foo bar baz
+    Ok([fed, listed])
+}
+
+/// Returns a command in another folder, with other variables.
+fn placed<E: Drop>(alloc: Global) -> Result<Expression<E>, Error> {
     let sh = cmd!(in alloc; "sh", "-c", "pwd; echo $FOO${HOME}bar")?;
     let placed = sh.dir("/")?.env("FOO", "foo")?.env_remove("HOME")?; // prints /, a newline, foobar
-    let both = cmd!(in alloc; "sh", "-c", "echo out; echo err >&2")?;
-    let sorted = filtered(
+    Ok(placed)
+}
+
+/// Returns a command whose lines are marked, and one whose lines are sorted and turned around.
+fn piped<E: Drop>(alloc: Global) -> Result<[Expression<E>; 2], Error> {
+    let both = named(
         alloc,
-        &cmd!(in alloc; "printf", "b\na\n")?,
-        &["sort", "rev"],
+        "a",
+        &cmd!(in alloc; "sh", "-c", "echo out; echo err >&2")?,
     )?;
-    let all = [listed, fed, placed, named(alloc, "a", &both)?, sorted];
-    let printed = "foo bar baz; foo; /\nfoobar; [a] out\n[a] err; a\nb; ";
-    assert_eq!(rt; told(&mut system, &all)?.as_str(), printed);
+    let lines = cmd!(in alloc; "printf", "b\na\n")?;
+    Ok([both, filtered(alloc, &lines, &["sort", "rev"])?])
+}
+
+/// Returns what these commands print.
+fn printed<S: System, R: Wait>(sh: &mut Shell<S, R>) -> Result<String, Failure> {
+    let alloc = sh.alloc;
+    let mut text = told(sh, &given(alloc)?)?;
+    text.push_str(told(sh, &[placed(alloc)?])?.as_str())?;
+    text.push_str(told(sh, &piped(alloc)?)?.as_str())?;
+    Ok(text)
+}
+
+#[test]
+fn commands_print(rt: HostRuntime) -> Result<(), Fail> {
+    let told = printed(&mut Shell::new(&rt))?;
+    let wanted = "foo; foo bar baz; /\nfoobar; [a] out\n[a] err; a\nb; ";
+    assert_eq!(rt; told.as_str(), wanted);
     Ok(())
+}
+
+/// Returns why pipes fail whose failures are excused.
+fn unexcused<S: System, R: Wait>(sh: &mut Shell<S, R>) -> Result<String, Failure> {
+    let pipes = excused(&sh.cmd("false", &[])?, &sh.cmd("sh", &["-c", "exit 3"])?)?;
+    told(sh, &pipes)
 }
 
 #[test]
 fn commands_fail(rt: HostRuntime) -> Result<(), Fail> {
-    let (alloc, mut sh) = (rt.alloc(), Shell::new(&rt));
-    let pipes = excused(&sh.cmd("false", &[])?, &sh.cmd("sh", &["-c", "exit 3"])?)?;
+    let mut sh = Shell::new(&rt);
     let reasons = "command [\"sh\", \"-c\", \"exit 3\"] exited with code 3; \
 command [\"false\"] exited with code 1; ; ";
-    assert_eq!(rt; told(&mut sh, &pipes)?.as_str(), reasons);
-    let reason = unfound(&rt, alloc, &mut sh.system)?;
+    assert_eq!(rt; unexcused(&mut sh)?.as_str(), reasons);
+    let reason = unfound(&rt, rt.alloc(), &mut sh.system)?;
     assert_eq!(rt; reason.as_str(), "spawn of \"no-such-program\": NotFound");
-    let paths = format!(in alloc; "{:?}", by_paths::<()>(alloc)?)?;
+    Ok(())
+}
+
+#[test]
+fn a_path_is_kept_apart_from_a_name(rt: HostRuntime) -> Result<(), Fail> {
+    let paths = format!(in rt.alloc(); "{:?}", by_paths::<()>(rt.alloc())?)?;
     let wanted = "Pipe(Cmd([\"./tools/a\", \"-v\", \"in\"]), Cmd([\"b\"]))";
     assert_eq!(rt; paths.as_str(), wanted);
     Ok(())
 }
 
-#[test]
-fn a_hook_decides_over_modifiers(rt: HostRuntime) -> Result<(), Fail> {
-    let (alloc, mut sh) = (rt.alloc(), Shell::new(&rt));
+/// Returns what a command writes to a log, although its stderr is null.
+fn log_of<S: System, R: Wait>(sh: &mut Shell<S, R>) -> Result<String, Failure> {
     let log = sh.system.create("log")?;
     let silent = sh.cmd("sh", &["-c", "echo $0 >&2"])?.stderr_null()?;
-    sh.run(&logged(alloc, &silent, log)?)?;
-    assert_eq!(rt; sh.read(&sh.cmd("cat", &["log"])?)?.as_str(), "bar");
+    sh.run(&logged(sh.alloc, &silent, log)?)?;
+    sh.read(&sh.cmd("cat", &["log"])?)
+}
+
+#[test]
+fn a_hook_decides_over_modifiers(rt: HostRuntime) -> Result<(), Fail> {
+    assert_eq!(rt; log_of(&mut Shell::new(&rt))?.as_str(), "bar");
     Ok(())
 }

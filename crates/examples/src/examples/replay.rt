@@ -4,7 +4,9 @@ use duct::{Error, Expression, Output, Pool, System, cmd};
 use duct_guard::Traced;
 use duct_host::{End, Host};
 use duct_plan::{PlanText, plan};
-use duct_replay::{Recorder, Records, Replay, Variables, read_recording, recording_text};
+use duct_replay::{
+    Recorder, Records, Replay, ReplayEnd, Variables, read_recording, recording_text,
+};
 use duct_shell::{EntryText, FailedRun, run_captured};
 use std::alloc::{AllocError, Global};
 use std::io::Write;
@@ -54,6 +56,18 @@ fn difference_text(alloc: Global, replay: &Replay) -> Result<String, AllocError>
     }
 }
 
+/// Runs a command over a replay of a recording. Returns how it ended, and where it differs.
+fn replayed(
+    rt: &impl Wait,
+    alloc: Global,
+    lines: &str,
+    command: &Expression<ReplayEnd>,
+) -> Result<(Result<Output, Error>, String), Fail> {
+    let mut replay = Replay::new(alloc, read_recording(alloc, lines)?);
+    let ran = command.run(rt, &mut replay, &mut Pool::new(alloc));
+    Ok((ran, difference_text(alloc, &replay)?))
+}
+
 /// A pipeline that ends in a script.
 fn pipeline<E: Drop>(alloc: Global, script: &str) -> Result<Expression<E>, Error> {
     let echo = cmd!(in alloc; "echo", "recorded")?;
@@ -97,17 +111,13 @@ no sh in /";
 #[test]
 fn a_recording_is_replayed(rt: HostRuntime) -> Result<(), Fail> {
     let alloc = rt.alloc();
-    let command = pipeline(alloc, "cat; exit 3")?;
-    let (output, lines) = recorded(&rt, alloc, Host::new(&rt, alloc), &command)?;
-    let mut replay = Replay::new(alloc, read_recording(alloc, lines.as_str())?);
-    let again = pipeline(alloc, "cat; exit 3")?.run(&rt, &mut replay, &mut Pool::new(alloc))?;
-    assert!(rt; again == output);
-    let told = difference_text(alloc, &replay)?;
+    let host = Host::new(&rt, alloc);
+    let (output, lines) = recorded(&rt, alloc, host, &pipeline(alloc, "cat; exit 3")?)?;
+    let (again, told) = replayed(&rt, alloc, lines.as_str(), &pipeline(alloc, "cat; exit 3")?)?;
+    assert!(rt; again == Ok(output));
     assert_eq!(rt; told.as_str(), "each entry is the recorded one");
-    let mut other = Replay::new(alloc, read_recording(alloc, lines.as_str())?);
-    let ran = pipeline(alloc, "tail -n 1")?.run(&rt, &mut other, &mut Pool::new(alloc));
+    let (ran, told) = replayed(&rt, alloc, lines.as_str(), &pipeline(alloc, "tail -n 1")?)?;
     assert!(rt; ran.is_err());
-    let told = difference_text(alloc, &other)?;
     let wanted = "entry 8 differs from spawn of \"sh\" \"-c\" \"cat; exit 3\"";
     assert_eq!(rt; told.as_str(), wanted);
     Ok(())
