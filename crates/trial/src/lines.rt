@@ -137,6 +137,19 @@ fn rest<R: Real, C: duct::Child>(rt: &R, pool: &mut Pool<C>, before: Left) -> io
     })
 }
 
+/// Runs the lines of a text, and writes their results.
+fn tell_lines<R: Real + Wait, O: Write>(
+    machine: &mut Machine<R>,
+    input: &str,
+    out: &mut O,
+) -> io::Result<()> {
+    for line in input.lines() {
+        writeln!(out, "{}", machine.told(line)?)?;
+        machine.host.clear_journal();
+    }
+    Ok(())
+}
+
 /// Runs the lines of `stdin`, and writes their results and what they left.
 pub fn try_lines<R: Real + Wait, I: Read, O: Write>(
     rt: &R,
@@ -151,10 +164,7 @@ pub fn try_lines<R: Real + Wait, I: Read, O: Write>(
         host: Host::new(rt.clone()?, rt.alloc()),
         pool: Pool::new(rt.alloc()),
     };
-    for line in input.lines() {
-        writeln!(out, "{}", machine.told(line)?)?;
-        machine.host.clear_journal();
-    }
+    tell_lines(&mut machine, input.as_str(), out)?;
     let left = rest(rt, &mut machine.pool, before)?;
     writeln!(out, "left {} {}", left.descriptors, left.children)
 }
