@@ -6,7 +6,7 @@ use Rattle.std.proofs.lemmas.List.Elements.{All-head, All-tail}
 use Rattle.std.specs.Coded.{Coded-set, coded_list, coded_ℕ, →_prop}
 use Rattle.std.specs.List.{AllZip}
 use Rattle.std.specs.declared.sync.Arc.{Arc}
-use mathlib.Core.HLevel.{IsProp, ⊥_prop}
+use mathlib.Core.HLevel.{⊥_prop}
 use Rattle.duct_system.specs.Child.{Answer, ChildView, Obeyed}
 use Rattle.duct_system.specs.EntryView.{EntryView}
 use Rattle.duct_system.specs.Job.{JobView}
@@ -69,10 +69,10 @@ exit_stored : (number : ℕ) (ending : Option ExitStatus) (last : Option Answer)
     → IfSome ending (λ status. MayAnswer number (Ok (Some status)))
     → AreOver (command_said (Some (stored_word ending last)) ∷ [])
     → status_of (Some (stored_word ending last)) ≡ exit_of number
-exit_stored number (Some status) last answered told over = cc
-exit_stored number None (Some (Err fault)) answered told over = absurd (cc)
-exit_stored number None (Some (Ok found)) answered told over = absurd (cc)
-exit_stored number None None answered told over = absurd (cc)
+exit_stored number (Some status) last heard told over = cc
+exit_stored number None (Some (Err fault)) heard told over = absurd (cc)
+exit_stored number None (Some (Ok found)) heard told over = absurd (cc)
+exit_stored number None None heard told over = absurd (cc)
 
 -- the words that children store
 abbrev words : List ChildView → List Word
@@ -207,7 +207,7 @@ module _ (numbers : NumbersView) (shape : ShapeView) (status : ExitStatus) (out 
   exit_was number one = fact (Coded-set exit.the_row.coded _ _)
       (λ told. let alone = told shape (number ∷ []) number refl one in alone.2.1 ∙ only number shape 0 alone.0)
 
-  never_was : (texts : List (List ℕ)) → shape ≡ command texts → ⊥
+  pub never_was : (texts : List (List ℕ)) → shape ≡ command texts → ⊥
   never_was texts is = fact ⊥_prop (λ told. no_failure _ (exit_fails (get_or numbers.children 0 0))
       (told (command texts) numbers.children 0 is refl).2.0)
 
