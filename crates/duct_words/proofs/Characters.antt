@@ -7,9 +7,8 @@ use Rattle.std.proofs.Math.Utf8.{encode, next}
 use Rattle.std.specs.Prelude.{◌≢◌, ◌==◌, nat_lt}
 use Rattle.std.specs.declared.result.Result.{Result}
 use Rattle.duct_program.specs.Parsed.{◌>>=◌}
-use Rattle.duct_words.specs.Kind.{kind_of}
 use Rattle.duct_words.specs.Quote.{between}
-use Rattle.duct_words.specs.Split.{RefusesAs, State, TokenView, bare, ordinary, pushed, read, step}
+use Rattle.duct_words.specs.Split.{RefusesAs, State, TokenView, bare, kind_of, ordinary, pushed, read, step}
 use Rattle.duct_words.specs.declared.error.SplitError.{SplitError}
 use Rattle.duct_words.specs.declared.error.SplitError.TheVariants.{Unquoted, UnclosedQuote, LastBackslash, Memory}
 use Rattle.duct_words.specs.declared.kind.Kind.TheVariants.{Ordinary}

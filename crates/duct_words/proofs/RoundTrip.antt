@@ -8,9 +8,8 @@ use Rattle.std.specs.Prelude.{◌≢◌, ◌==◌, ◌&&◌, if◌then◌else◌
 use Rattle.std.specs.declared.result.Result.{Result}
 use Rattle.duct_words.proofs.Characters.{between_one}
 use Rattle.duct_program.specs.Parsed.{◌>>=◌}
-use Rattle.duct_words.specs.Kind.{is_plain, kind_of}
 use Rattle.duct_words.specs.Quote.{between, further, has_no_quotes, is_bare, is_bare_byte, is_reserved, quote_of, quoted}
-use Rattle.duct_words.specs.Split.{State, TokenView, bare, ordinary, read, single, split_of, word}
+use Rattle.duct_words.specs.Split.{State, TokenView, bare, is_plain, kind_of, ordinary, read, single, split_of, word}
 use Rattle.duct_words.specs.declared.error.SplitError.{SplitError}
 use Rattle.duct_words.specs.declared.kind.Kind.TheVariants.{Ordinary}
 use Rattle.duct_words.specs.declared.lexer.Part.{Part}

@@ -1,4 +1,3 @@
-pub mod Kind
 pub mod Line
 pub mod Quote
 pub mod ShellText

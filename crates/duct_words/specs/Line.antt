@@ -2,6 +2,7 @@
 -- see of what was read so far.
 use Rattle.std.specs.Prelude.{◌≡◌, ℕ, List, [], ◌∷◌, ◌++◌, Some, None, Ok, Err}
 use Rattle.std.specs.Option.{option_map}
+use Rattle.std.specs.Result.{result_map_both}
 use Rattle.std.specs.declared.option.Option.{Option}
 use Rattle.std.specs.declared.result.Result.{Result}
 use Rattle.duct_system.specs.declared.spec.Stream.{Stream}
@@ -28,11 +29,6 @@ pub record State (E H : Type 0) : Type 0 where
 -- a command before its first word
 abbrev pub no_words : CommandView
 no_words = record { words = []; redirections = [] }
-
--- the same result, with another form of its error
-abbrev pub err_as : {A U E : Type 0} → (U → E) → Result A U → Result A E
-err_as form (Ok value) = Ok value
-err_as form (Err error) = Err (form error)
 
 module _ {E H : Type 0} where
   -- what the code has read so far
@@ -103,16 +99,12 @@ module _ {E H : Type 0} where
   -- the expression of a text
   abbrev pub line_of : List ℕ → Result (TreeView E H) LineError
   line_of text =
-      err_as errors.Split (split_of text) >>= λ found.
-      err_as errors.Usage (tree_of start found)
-
--- the error is the one that is read, or an allocation failed
-abbrev pub RefusesAs : {B : Type 0} → LineError → Result B LineError → Type 0
-RefusesAs (errors.Split splits.Memory) read = Unit {0}
-RefusesAs (errors.Usage usages.Memory) read = Unit {0}
-RefusesAs error read = read ≡ Err error
+      result_map_both (λ same. same) errors.Split (split_of text) >>= λ found.
+      result_map_both (λ same. same) errors.Usage (tree_of start found)
 
 -- the result, seen by a view, is what is read, or an allocation failed
 abbrev pub ParsesAs : {A B : Type 0} → (A → B) → Result A LineError → Result B LineError → Type 0
 ParsesAs view (Ok value) read = read ≡ Ok (view value)
-ParsesAs view (Err error) read = RefusesAs error read
+ParsesAs view (Err (errors.Split splits.Memory)) read = Unit {0}
+ParsesAs view (Err (errors.Usage usages.Memory)) read = Unit {0}
+ParsesAs view (Err error) read = read ≡ Err error

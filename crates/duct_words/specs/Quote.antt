@@ -1,7 +1,7 @@
 -- The text of some words.
 use Rattle.std.specs.Prelude.{ℕ, List, [], ◌∷◌, ◌++◌, Bool, true, false, length, ◌==◌, ◌||◌, ◌&&◌, not, if◌then◌else◌, bytes_eq, codes}
 use Rattle.std.specs.List.{list_all}
-use Rattle.duct_words.specs.Kind.{is_plain}
+use Rattle.duct_words.specs.Split.{is_plain}
 
 -- whether a byte needs no quotes in a word, which is the first of its command or not
 abbrev pub is_bare_byte : Bool → ℕ → Bool

@@ -118,13 +118,9 @@ module _ {E H : Type 0} where
   shell_text_of tree =
       text_of None [] tree >>= λ text. if list_any (λ b. b == 0) text then Err Nul else Ok text
 
--- the error is the one that is read, or an allocation failed
-abbrev pub RefusesAs : {B : Type 0} → ShellTextError → Result B ShellTextError → Type 0
-RefusesAs Memory read = Unit {0}
-RefusesAs error read = read ≡ Err error
-
 -- the result, seen by a view, is what is read, or an allocation failed
 abbrev pub ParsesAs : {A B : Type 0} → (A → B) → Result A ShellTextError
     → Result B ShellTextError → Type 0
 ParsesAs view (Ok value) read = read ≡ Ok (view value)
-ParsesAs view (Err error) read = RefusesAs error read
+ParsesAs view (Err Memory) read = Unit {0}
+ParsesAs view (Err error) read = read ≡ Err error

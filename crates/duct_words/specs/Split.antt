@@ -1,15 +1,15 @@
--- The tokens of a text, read one byte after the other, or why it has none; and what contracts see of
--- tokens, and of what was read so far.
+-- What a shell takes a character for, as its code says; the tokens of a text, read one byte after the
+-- other, or why it has none; and what contracts see of tokens, and of what was read so far.
 use Rattle.std.specs.Prelude.{◌≡◌, ℕ, suc, List, [], ◌∷◌, ◌++◌, Bool, true, false, ◌==◌, ◌&&◌, ◌||◌, not, Ok, Err, if◌then◌else◌, codes, map, string_bytes}
-use Rattle.std.specs.Char.{is_ascii_digit}
-use Rattle.std.specs.List.{list_all}
+use Rattle.std.specs.Char.{is_ascii_alphanumeric, is_ascii_digit}
+use Rattle.std.specs.List.{list_all, list_any}
 use Rattle.std.specs.Str.{bytes_eq}
 use Rattle.std.specs.declared.result.Result.{Result}
 use Rattle.duct_system.specs.declared.spec.Stream.{Stream}
 use Rattle.duct_system.specs.declared.spec.Stream.TheVariants as streams
 use Rattle.duct_program.specs.Parsed.{◌>>=◌}
-use Rattle.duct_words.specs.Kind.{is_one_of, kind_of}
-use Rattle.duct_words.specs.declared.kind.Kind.TheVariants.{Ordinary, Blank, SingleQuote, DoubleQuote, Backslash, Pipe, Less, Greater, Equals}
+use Rattle.duct_words.specs.declared.kind.Kind.{Kind}
+use Rattle.duct_words.specs.declared.kind.Kind.TheVariants.{Ordinary, Blank, Newline, SingleQuote, DoubleQuote, Backslash, Pipe, Less, Greater, Equals, Expansion, Special}
 use Rattle.duct_words.specs.declared.lexer.Lexer.{Lexer}
 use Rattle.duct_words.specs.declared.lexer.Part.{Part}
 use Rattle.duct_words.specs.declared.lexer.Part.TheVariants.{Gap, Operator, Plain, Quoted}
@@ -19,6 +19,31 @@ use Rattle.duct_words.specs.declared.error.SplitError.{SplitError}
 use Rattle.duct_words.specs.declared.error.SplitError.TheVariants.{Unquoted, UnclosedQuote, LastBackslash, Memory}
 use Rattle.duct_words.specs.declared.token.Token.{Token}
 use Rattle.duct_words.specs.declared.token.Token.TheVariants as code
+
+-- whether a code is one of these
+abbrev pub is_one_of : List ℕ → ℕ → Bool
+is_one_of allowed c = list_any (λ one. one == c) allowed
+
+-- whether it is written without quotes
+abbrev pub is_plain : ℕ → Bool
+is_plain c = is_ascii_alphanumeric c || is_one_of (codes "@%+:,./-_") c
+
+-- what it is, where no quote is open
+unfoldable pub kind_of : ℕ → Kind
+kind_of c =
+    if is_plain c then Ordinary
+    else if is_one_of (codes " \t") c then Blank
+    else if c == 10 then Newline
+    else if c == 39 then SingleQuote
+    else if c == 34 then DoubleQuote
+    else if c == 92 then Backslash
+    else if c == 124 then Pipe
+    else if c == 60 then Less
+    else if c == 62 then Greater
+    else if c == 61 then Equals
+    else if is_one_of (codes "$`") c then Expansion
+    else if is_one_of (codes "*?[~#;&(){}!") c then Special
+    else Ordinary
 
 -- a word as bytes, or an operator
 pub data TokenView : Type 0 where
@@ -110,9 +135,8 @@ is_number state =
 
 -- whether the word and this stream are those of `2>`
 abbrev pub is_error : Stream → State → Bool
-is_error streams.In state = false
 is_error streams.Out state = bytes_eq state.word (codes "2")
-is_error streams.Err state = false
+is_error _ state = false
 
 -- after a `<` or `>`, which redirects this stream unless a 2 stands before it
 abbrev pub redirection : Stream → ℕ → State → ℕ → Result State SplitError

@@ -1,6 +1,6 @@
 //! What a shell takes a character for.
 ghost use Rattle.std.specs.Prelude.{◌≡◌};
-ghost use Rattle.duct_words.specs.Kind.{is_plain, kind_of};
+ghost use Rattle.duct_words.specs.Split.{is_plain, kind_of};
 
 /// What an unquoted character is to a shell.
 #[derive(Clone, Copy)]
@@ -33,7 +33,7 @@ pub(crate) fn is_plain(c: char) -> bool
 }
 
 /// What a character is, where no quote is open.
-#[tactic(auto, unfolding(crate::specs::Kind::kind_of))]
+#[tactic(auto, unfolding(crate::specs::Split::kind_of))]
 pub(crate) fn kind_of(c: char) -> Kind
     ensures { result ≡ kind_of c }
 {
