@@ -4,8 +4,7 @@ use Rattle.std.proofs.Common.{◌≡◌, refl, sym, subst, ◌∙◌, arith}
 use Rattle.std.proofs.lemmas.List.{append-nil}
 use Rattle.duct_system.specs.EntryView.{EntryView}
 use Rattle.duct_system.specs.Journal.{JournalView}
-use Rattle.duct_guard.specs.Forwarded.{IsForwarded}
-use Rattle.duct_guard.specs.GuardView.{GuardView, OnlyForwards}
+use Rattle.duct_guard.specs.GuardView.{GuardView, IsForwarded, OnlyForwards}
 use Rattle.duct_guard.specs.Rules.{Rules}
 use Rattle.duct_guard.proofs.Counting.{Notes}
 

@@ -10,7 +10,7 @@ use Rattle.duct_system.specs.Streams.{stream_of, end_of, ends_of}
 use Rattle.duct_system.specs.declared.system.Fault.{Fault}
 use Rattle.duct_system.specs.declared.system.Stdio.{Stdio}
 use Rattle.duct_system.specs.declared.system.Stdio.TheVariants.{Inherit, Null, End}
-use Rattle.duct_guard.specs.Closed.{AddsAll, ClosesFirst}
+use Rattle.duct_guard.specs.GuardView.{AddsAll, ClosesFirst}
 
 -- the first of two lists
 take_both : (n : ℕ) (xs ys : List ℕ)

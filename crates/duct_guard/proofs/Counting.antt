@@ -10,18 +10,13 @@ use Rattle.duct_system.specs.SpecView.{SpecView}
 use Rattle.duct_system.specs.Streams.{ends_of}
 use Rattle.duct_system.specs.declared.system.Fault.{Fault}
 use Rattle.duct_system.specs.declared.system.Stdio.{Stdio}
-use Rattle.duct_guard.specs.Crew.{IsCrew, Joins, Leaves}
-use Rattle.duct_guard.specs.Forwarded.{IsForwarded}
-use Rattle.duct_guard.specs.GuardView.{Keeps}
-use Rattle.duct_guard.specs.Held.{child_of, with_children, with_ends, with_entry, without_ends}
+use Rattle.duct_guard.specs.Held.{IsCrew, Joins, Leaves, child_of, with_children, with_ends, with_entry, without_ends}
+use Rattle.duct_guard.specs.GuardView.{IsForwarded, Keeps}
 use Rattle.duct_guard.specs.Rules.{Rules}
 use Rattle.duct_guard.specs.declared.counts.Held.{Held}
-use Rattle.duct_guard.proofs.Beginning.{begun_still}
+use Rattle.duct_guard.proofs.Holding.{begun_still, entry_is, none_started, one_counted}
 use Rattle.duct_guard.proofs.Crews.{crew_joined, crew_left, crew_same}
-use Rattle.duct_guard.proofs.Ends.{OpensEnd}
-use Rattle.duct_guard.proofs.Guarding.{one_noted}
-use Rattle.duct_guard.proofs.Holding.{entry_is, none_started}
-use Rattle.duct_guard.proofs.Limiting.{one_counted}
+use Rattle.duct_guard.proofs.Guarding.{OpensEnd, one_noted}
 
 -- a journal with this many entries ever added and this room, to which one more was added
 pub record Notes (entry : EntryView) (entries : List EntryView) (added room : ℕ)

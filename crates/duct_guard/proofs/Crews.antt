@@ -4,14 +4,12 @@ use Rattle.std.specs.List.{swap_remove}
 use Rattle.std.specs.List.Sorted.{IsPermutation}
 use Rattle.std.proofs.Common.{◌≡◌, ap, sym, subst, ◌∙◌, arith, append_assoc, ◌+◌, ◌<◌, ◌≤◌}
 use Rattle.std.proofs.lemmas.List.{append-nil, get_or_default, length-append, length-map}
-use Rattle.std.proofs.lemmas.List.Sorted.{IsPermutation-append_comm, IsPermutation-append_left, IsPermutation-append_right, IsPermutation-map, IsPermutation-refl, IsPermutation-swap_remove, IsPermutation-trans}
-use Rattle.std.proofs.lemmas.List.Sorted.{length_permutation}
+use Rattle.std.proofs.lemmas.List.Sorted.{IsPermutation-append_comm, IsPermutation-append_left, IsPermutation-append_right, IsPermutation-map, IsPermutation-refl, IsPermutation-swap_remove, IsPermutation-trans, length_permutation}
 use mathlib.Core.Logic.{∥∥₁_map, ∥∥₁_map₂, ∥∥₁_elim}
 use Rattle.std.proofs.Math.Bridge.{le_prop}
 use Rattle.duct_system.specs.Child.{Answer}
 use Rattle.duct_system.specs.EntryView.{EntryView}
-use Rattle.duct_guard.specs.Crew.{HasEnded, HaveEnded, children_of, Leaves, Joins, IsCrew}
-use Rattle.duct_guard.specs.Held.{child_of, held_after, with_entry}
+use Rattle.duct_guard.specs.Held.{HasEnded, HaveEnded, IsCrew, Joins, Leaves, child_of, children_of, held_after, with_entry}
 use Rattle.duct_guard.specs.declared.counts.Held.{Held}
 use Rattle.duct_guard.proofs.Holding.{children_now}
 

@@ -9,7 +9,7 @@ use Rattle.std.proofs.lemmas.List.Folds.{list_all-append}
 use Rattle.std.proofs.Math.Nat.{le_refl}
 use mathlib.Core.Bool.{Bool-set}
 use mathlib.Core.Logic.{∥∥₁_map, ∥∥₁_elim}
-use Rattle.duct_system.specs.EntryView.{EntryView, Environment, Pipe, Canonicalize, Spawn, Close}
+use Rattle.duct_system.specs.EntryView.{EntryView, Environment, Pipe, Canonicalize, Spawn, Close, answer_of}
 use Rattle.duct_system.specs.Journal.{JournalView, Adds, AddsNothing, GetsEnds, IsNew, IsRefused}
 use Rattle.duct_system.specs.Ledger.{opened_by, spent_by}
 use Rattle.duct_system.specs.SpecView.{SpecView, Vars}
@@ -18,14 +18,12 @@ use Rattle.duct_system.specs.Trace.{fault_of}
 use Rattle.duct_system.specs.declared.system.Fault.{Fault}
 use Rattle.duct_system.specs.declared.system.Kind.{Kind}
 use Rattle.duct_system.specs.declared.system.Stdio.{Stdio}
-use Rattle.duct_guard.specs.Allowed.{is_allowed, is_denial, AreAllowed, AreDenied}
-use Rattle.duct_system.specs.EntryView.{answer_of}
-use Rattle.duct_guard.specs.Closed.{AddsAll, ClosesFirst}
-use Rattle.duct_guard.specs.Forwarded.{allows_spawn, may_ask, refusal, Forwards, Passed, Refused, Crowded, LostVars, LostPath, ForwardsAll, IsForwarded}
-use Rattle.duct_guard.specs.Held.{held_after, is_within, with_entry}
-use Rattle.duct_guard.specs.Requests as request
-use Rattle.duct_guard.specs.Rules.{Rules}
+use Rattle.duct_guard.specs.Rules.{AreAllowed, AreDenied, Rules, canonicalize, is_allowed, is_denial, spawn}
+use Rattle.duct_guard.specs.GuardView.{AddsAll, ClosesFirst, Crowded, Forwards, ForwardsAll, IsForwarded, LostPath, LostVars, Passed, Refused, allows_spawn, may_ask, refusal, GotEnd, asked_of, end_entry}
+use Rattle.duct_guard.specs.Held.{held_after, is_within, with_entry, child_of}
 use Rattle.duct_guard.specs.declared.counts.Held.{Held}
+use Rattle.duct_guard.specs.declared.requests.EndRequest.{EndRequest}
+use Rattle.duct_guard.specs.declared.requests.EndRequest.TheVariants as asks
 
 module _ (rules : Rules) where
   append_one : (held : Held) (entries below : List EntryView) (entry : EntryView)
@@ -197,7 +195,7 @@ module _ (rules : Rules) (held : Held) where
   }
 
   pub lost_path : (path name : List ℕ) (fault : Fault) (old new : JournalView)
-      → rules.allows (request.canonicalize path) ≡ true → fault ≡ refusal true
+      → rules.allows (canonicalize path) ≡ true → fault ≡ refusal true
       → Adds (Canonicalize path (Ok name)) 0 0 old new
       → IsForwarded rules held (Canonicalize path (Err fault)) old new
   lost_path path name fault old new allowed is adds = record {
@@ -256,7 +254,7 @@ module _ (rules : Rules) where
   entry_denied held entry asked (Refused count fault is) =
       denial (is_allowed rules entry) (is_within rules.limits held entry) (fault_of entry) fault
   entry_denied held entry asked (Crowded count spec io noted full is) =
-      rw noted (denied_anyway (rules.allows (request.spawn spec)))
+      rw noted (denied_anyway (rules.allows (spawn spec)))
   entry_denied held entry asked (LostVars vars noted is) = rw noted refl
   entry_denied held entry asked (LostPath path name allowed noted is) = rw (noted, allowed) refl
 
@@ -274,3 +272,48 @@ module _ (rules : Rules) where
   pub own_denied : (held : Held) (own below : List EntryView) → ∥ ForwardsAll rules held own below ∥₁
       → AreDenied rules own
   own_denied held own below forwards = ∥∥₁_elim forwards (Bool-set _ _) (all_denied held own below)
+
+-- entries of a request that opens an end, if it doesn't fail, and does nothing else
+pub record OpensEnd (entry : Result ℕ Fault → EntryView) : Type 0 where
+  pub opened : (n : ℕ) → opened_by (entry (Ok n)) ≡ n ∷ []
+  pub unopened : (fault : Fault) → opened_by (entry (Err fault)) ≡ []
+  pub spent : (answer : Result ℕ Fault) → spent_by (entry answer) ≡ []
+  pub started : (answer : Result ℕ Fault) → child_of (entry answer) ≡ []
+  pub told : (fault : Fault) → fault_of (entry (Err fault)) ≡ Some fault
+
+module _ {E : Type 0} (number : E → ℕ) where
+  pub opens_end : (asked : EndRequest E) → OpensEnd (end_entry number asked)
+  opens_end (asks.Read path) =
+      record { opened = λ n. refl; unopened = λ f. refl; spent = λ a. refl; started = λ a. refl; told = λ f. refl }
+  opens_end _ =
+      record { opened = λ n. refl; unopened = λ f. refl; spent = λ a. refl; started = λ a. refl; told = λ f. refl }
+
+  asks_end : (rules : Rules) (held : Held) (asked : EndRequest E) (answer : Result ℕ Fault)
+      → may_ask rules held (end_entry number asked answer)
+      ≡ (rules.allows (asked_of asked) && nat_le (held.ends + 1) rules.limits.ends)
+  asks_end rules held (asks.Read path) answer = refl
+  asks_end rules held _ answer = refl
+
+  -- the request was made
+  pub end_answered : {rules : Rules} {held : Held} {old new : JournalView} (asked : EndRequest E)
+      (made : Result E Fault) → (rules.allows (asked_of asked) && nat_le (held.ends + 1) rules.limits.ends) ≡ true
+      → GotEnd number (end_entry number asked) made old new
+      → IsForwarded rules held (end_entry number asked (answer_of number made)) old new
+  end_answered {rules = rules} {held = held} asked (Ok end) allowed got =
+      let opens = opens_end asked in
+      let entry = end_entry number asked (Ok (number end)) in
+      passed rules held entry _ _ (asks_end rules held asked _ ∙ allowed)
+      (rw (opens.opened (number end), opens.spent (Ok (number end))) got.ok.0)
+  end_answered {rules = rules} {held = held} asked (Err fault) allowed got =
+      let opens = opens_end asked in
+      failed rules held _ fault _ _ (asks_end rules held asked _ ∙ allowed) (opens.told fault)
+      (opens.unopened fault) (rw (opens.spent (Err fault)) got.err)
+
+  -- it was not
+  pub end_forbidden : {rules : Rules} {held : Held} {view : JournalView} (asked : EndRequest E)
+      (fault : Fault) → (rules.allows (asked_of asked) && nat_le (held.ends + 1) rules.limits.ends) ≡ false
+      → fault ≡ refusal false
+      → IsForwarded rules held (end_entry number asked (Err fault)) view view
+  end_forbidden {rules = rules} {held = held} asked fault denied is =
+      let opens = opens_end asked in
+      forbidden rules held _ fault _ (asks_end rules held asked _ ∙ denied) (opens.told fault) is (opens.unopened fault)

@@ -1,9 +1,21 @@
--- What a guard holds after an entry, part by part.
-use Rattle.std.specs.Prelude.{ℕ, Bool, List, [], ◌∷◌, true, false, length, nat_le, if◌then◌else◌}
-use Rattle.std.proofs.Common.{◌≡◌, refl, ap, sym, ◌∙◌, arith, ◌+◌, ◌-◌, ◌≤◌}
-use Rattle.duct_system.specs.EntryView.{EntryView}
+-- What a guard holds after an entry, part by part, and that it never exceeds its policy's limits.
+use Rattle.std.specs.Prelude.{ℕ, Bool, List, [], ◌∷◌, ◌++◌, ◌+◌, ◌&&◌, true, false, length, nat_le, Ok, Err, OnOk, Some, if◌then◌else◌}
+use Rattle.std.specs.declared.result.Result.{Result}
+use Rattle.std.proofs.Common.{◌≡◌, refl, ap, sym, subst, ◌∙◌, arith, ◌-◌, ◌≤◌, length-append}
+use Rattle.std.proofs.lemmas.Bool.{and_parts, leb-true}
+use Rattle.std.proofs.lemmas.List.{nil_from_length}
+use Rattle.std.proofs.Math.Bool.{and-true}
+use Rattle.std.proofs.Math.Bridge.{le_prop}
+use mathlib.Core.Logic.{∥∥₁_elim}
+use Rattle.duct_system.specs.EntryView.{EntryView, Pipe, OpenRead, Create, Duplicate, Parent, Spawn}
 use Rattle.duct_system.specs.Ledger.{opened_by, spent_by}
-use Rattle.duct_guard.specs.Held.{child_of, started_by, with_children, with_ends, with_entry, without_end, without_ends}
+use Rattle.duct_system.specs.Streams.{ends_of}
+use Rattle.duct_system.specs.Trace.{fault_of}
+use Rattle.duct_system.specs.declared.system.Fault.{Fault}
+use Rattle.duct_guard.specs.Rules.{Rules, is_allowed}
+use Rattle.duct_guard.specs.GuardView.{Forwards, Passed, Refused, Crowded, LostVars, LostPath, ForwardsAll}
+use Rattle.duct_guard.specs.Held.{counts_of, started_by, with_children, with_ends, with_entry, held_after, is_within, Fits, AlwaysFits, child_of, without_end, without_ends, IsBegun, nothing_held}
+use Rattle.duct_guard.specs.declared.counts.Counts.{Counts}
 use Rattle.duct_guard.specs.declared.counts.Held.{Held}
 
 opened_children : (held : Held) (numbers : List ℕ) → (with_ends held numbers).children ≡ held.children
@@ -45,3 +57,156 @@ pub entry_is : (held : Held) (entry : EntryView) → child_of entry ≡ []
 entry_is held entry none =
     let now = without_ends (with_ends held (opened_by entry)) (spent_by entry) in
     sym (none_started now) ∙ ap (λ children. with_children now (length children)) (sym none)
+
+-- what was held when the journal was cleared last: a new guard
+pub begun_first : (earlier : Held) (added : ℕ) (entries : List EntryView) → entries ≡ [] → earlier ≡ nothing_held
+    → IsBegun earlier added entries
+begun_first earlier added entries none is =
+    record { long = rw none (omega arith); nothing = λ _. is }
+
+-- one more entry was added
+pub begun_still : (earlier : Held) (added now : ℕ) (entries more : List EntryView) (entry : EntryView)
+    → IsBegun earlier added entries → more ≡ entries ++ entry ∷ [] → now ≡ added + 1
+    → IsBegun earlier now more
+begun_still earlier added now entries more entry begun is count =
+    let one = ap length is ∙ length-append entries (entry ∷ []) in
+    record {
+      long = omega (arith, one, count, begun.long);
+      nothing = λ all. begun.nothing (omega (arith, one, count, all));
+    }
+
+-- the journal was cleared
+pub begun_again : (earlier held : Held) (added : ℕ) (entries : List EntryView) (now : ℕ) (left : List EntryView)
+    → IsBegun earlier added entries → held ≡ held_after earlier entries → now ≡ added → left ≡ [] → IsBegun held now left
+begun_again earlier held added entries now left begun counted same none =
+    record {
+      long = rw none (omega arith);
+      nothing = λ all.
+          let few : length left ≡ 0 = ap length none in
+          let empty : entries ≡ [] = nil_from_length entries (omega (arith, few, all, same, begun.long)) in
+          let whole : added ≡ length entries = rw empty (omega (arith, few, all, same)) in
+          counted ∙ rw empty (begun.nothing whole);
+    }
+
+held_append : (held : Held) (entries : List EntryView) (entry : EntryView)
+    → held_after held (entries ++ entry ∷ []) ≡ with_entry (held_after held entries) entry
+held_append held [] entry = refl
+held_append held (e ∷ es) entry = held_append (with_entry held e) es entry
+
+-- a guard that counted one more entry
+pub one_counted : (earlier held new : Held) (own more : List EntryView) (entry : EntryView)
+    → held ≡ held_after earlier own → more ≡ own ++ entry ∷ [] → new ≡ with_entry held entry
+    → new ≡ held_after earlier more
+one_counted earlier held new own more entry counted is adds =
+    adds ∙ ap (λ h. with_entry h entry) counted ∙ sym (held_append earlier own entry) ∙ ap (λ l. held_after earlier l) (sym is)
+
+module _ (limits : Counts) where
+  -- an entry that opens nothing and starts nothing
+  quiet : (held : Held) (entry : EntryView) → opened_by entry ≡ [] → started_by entry ≡ 0
+      → Fits limits (counts_of held) → Fits limits (counts_of (with_entry held entry))
+  quiet held entry opened started fits = record {
+    ends =
+        let few = fits.ends in
+        let less = (spent_less (with_ends held (opened_by entry)) (spent_by entry)).0 in
+        let same = ap (λ numbers. (with_ends held numbers).ends) opened in omega (arith, few, less, same);
+    children = let few = fits.children in let now = children_now held entry in omega (arith, started, few, now);
+  }
+
+  -- one that opens an end, within the limits
+  opening : (held : Held) (number : ℕ) → nat_le (held.ends + 1) limits.ends ≡ true
+      → Fits limits (counts_of held)
+      → Fits limits (counts_of (with_children (with_ends held (number ∷ [])) 0))
+  opening held number within fits = record {
+    ends = leb-true _ _ within;
+    children = let few = fits.children in omega (arith, few);
+  }
+
+  -- an entry whose request keeps within the limits
+  asked_fits : (held : Held) (entry : EntryView) → is_within limits held entry ≡ true
+      → Fits limits (counts_of held) → Fits limits (counts_of (with_entry held entry))
+  asked_fits held (Pipe (Ok ends)) within fits = record {
+    ends = let few = leb-true _ _ within in omega (arith, few);
+    children = let few = fits.children in omega (arith, few);
+  }
+  asked_fits held (OpenRead path (Ok n)) within fits = opening held n within fits
+  asked_fits held (Create path (Ok n)) within fits = opening held n within fits
+  asked_fits held (Duplicate lent (Ok n)) within fits = opening held n within fits
+  asked_fits held (Parent side (Ok n)) within fits = opening held n within fits
+  asked_fits held (Spawn spec io (Ok n)) within fits = record {
+    ends = let few = fits.ends in let less = (spent_less held (ends_of io)).0 in omega (arith, few, less);
+    children =
+        let few = leb-true _ _ within in
+        let same = (spent_less held (ends_of io)).1 in omega (arith, few, same);
+  }
+  asked_fits held entry within fits = quiet held entry refl refl fits
+
+  -- an entry whose request failed
+  failed_fits : (held : Held) (entry : EntryView) (fault : Fault)
+      → fault_of entry ≡ Some fault → Fits limits (counts_of held) → Fits limits (counts_of (with_entry held entry))
+  failed_fits held (Pipe (Ok ends)) fault is fits = absurd (cc)
+  failed_fits held (OpenRead path (Ok n)) fault is fits = absurd (cc)
+  failed_fits held (Create path (Ok n)) fault is fits = absurd (cc)
+  failed_fits held (Duplicate lent (Ok n)) fault is fits = absurd (cc)
+  failed_fits held (Parent side (Ok n)) fault is fits = absurd (cc)
+  failed_fits held (Spawn spec io (Ok n)) fault is fits = absurd (cc)
+  failed_fits held entry fault is fits = quiet held entry refl refl fits
+
+  fits_prop : (held : Held) (one other : Fits limits (counts_of held)) → one ≡ other
+  fits_prop held one other = λ i. record {
+    ends = le_prop one.ends other.ends i;
+    children = le_prop one.children other.children i;
+  }
+
+  all_prop : (held : Held) (entries : List EntryView)
+      (one other : AlwaysFits limits held entries) → one ≡ other
+  all_prop held [] one other = fits_prop held one other
+  all_prop held (e ∷ es) one other = λ i.
+      (fits_prop held one.0 other.0 i, all_prop (with_entry held e) es one.1 other.1 i)
+
+  last_fits : (held : Held) (entries : List EntryView) → AlwaysFits limits held entries
+      → Fits limits (counts_of (held_after held entries))
+  last_fits held [] fits = fits
+  last_fits held (e ∷ es) fits = last_fits (with_entry held e) es fits.1
+
+module _ (rules : Rules) where
+  entry_fits : (held : Held) (entry : EntryView) (asked : List EntryView)
+      → Forwards rules held entry asked → Fits rules.limits (counts_of held)
+      → Fits rules.limits (counts_of (with_entry held entry))
+  entry_fits held entry asked (Passed allowed is) fits =
+      asked_fits rules.limits held entry (and_parts (is_allowed rules entry) (is_within rules.limits held entry) allowed).1 fits
+  entry_fits held entry asked (Refused count fault is) fits =
+      failed_fits rules.limits held entry _ fault fits
+  entry_fits held entry asked (Crowded count spec io noted full is) fits =
+      failed_fits rules.limits held entry _ (ap fault_of noted) fits
+  entry_fits held entry asked (LostVars vars noted is) fits =
+      failed_fits rules.limits held entry _ (ap fault_of noted) fits
+  entry_fits held entry asked (LostPath path name allowed noted is) fits =
+      failed_fits rules.limits held entry _ (ap fault_of noted) fits
+
+  all_fit : (held : Held) (entries below : List EntryView) → Fits rules.limits (counts_of held)
+      → ForwardsAll rules held entries below → AlwaysFits rules.limits held entries
+  all_fit held [] below fits all = fits
+  all_fit held (e ∷ es) below fits all =
+      (fits, all_fit (with_entry held e) es all.1 (entry_fits held e all.0 all.3 fits) all.4)
+
+  -- no more than the limits is held, neither before nor after any entry
+  pub own_fits : (held : Held) (own below : List EntryView) → Fits rules.limits (counts_of held)
+      → ∥ ForwardsAll rules held own below ∥₁ → AlwaysFits rules.limits held own
+  own_fits held own below fits forwards =
+      ∥∥₁_elim forwards (all_prop rules.limits held own) (all_fit held own below fits)
+
+  -- and now
+  pub now_fits : (earlier held : Held) (own below : List EntryView) → Fits rules.limits (counts_of earlier)
+      → ∥ ForwardsAll rules earlier own below ∥₁ → held ≡ held_after earlier own
+      → Fits rules.limits (counts_of held)
+  now_fits earlier held own below fits forwards counted =
+      subst (λ (h : Held). Fits rules.limits (counts_of h)) (sym counted) (last_fits rules.limits earlier own (own_fits earlier own below fits forwards))
+
+-- a fact that a result needs where it is Ok
+pub on_ok : {A E : Type 0} (result : Result A E) {P : Type 0} → P → OnOk result P
+on_ok (Ok it) holds = holds
+on_ok (Err error) holds = tt
+
+-- a request that no limit counts is allowed as the rules say
+pub as_allowed : {allowed said : Bool} → allowed ≡ said → (allowed && true) ≡ said
+as_allowed {allowed} is = and-true allowed ∙ is

@@ -1,12 +1,9 @@
-pub mod Beginning
 pub mod Below
 pub mod Closing
 pub mod Counting
 pub mod Crews
-pub mod Ends
 pub mod Guarding
 pub mod Holding
 pub mod Prefixes
-pub mod Limiting
 pub mod Threads
 pub mod Reading

@@ -1,7 +1,7 @@
--- A test whether a list begins with another one.
-use Rattle.std.specs.Prelude.{ℕ, Bool, true, List, ◌++◌, length, take, drop, bytes_eq}
-use Rattle.std.specs.List.{starts_with}
-use Rattle.std.proofs.Common.{◌≡◌, ap, sym, ◌∙◌}
+-- A test whether a list begins with another one, and a test of what is seen of a list.
+use Rattle.std.specs.Prelude.{ℕ, Bool, true, ◌||◌, List, [], ◌∷◌, ◌++◌, length, map, take, drop, bytes_eq}
+use Rattle.std.specs.List.{list_any, starts_with}
+use Rattle.std.proofs.Common.{◌≡◌, ap, refl, sym, ◌∙◌}
 use Rattle.std.proofs.Math.Seq.{take-append_seam}
 use Rattle.std.proofs.lemmas.List.{take-append-drop}
 use Rattle.std.specs.Bool.{one_answer}
@@ -21,3 +21,9 @@ prefix_test xs ys b only exactly =
       λ e. (drop (length ys) xs, sym (take-append-drop (length ys) xs) ∙ ap (λ l. l ++ drop (length ys) xs) (sym (decides.0 e))),
       λ p. decides.1 (sym (ap (λ l. take (length ys) l) p.1 ∙ take-append_seam ys p.0)),
     )
+
+pub any_seen : {X Y : Type 0} (test : X → Bool) (view : Y → X) (items : List Y)
+    → list_any (λ item. test (view item)) items ≡ list_any test (map view items)
+any_seen test view [] = refl
+any_seen test view (item ∷ items) =
+    ap (λ found. test (view item) || found) (any_seen test view items)

@@ -1,13 +1,6 @@
-pub mod Allowed
-pub mod Closed
-pub mod Crew
-pub mod Ends
-pub mod Forwarded
 pub mod GuardView
 pub mod Held
-pub mod Line
 pub mod Policies
-pub mod Requests
 pub mod Rules
 pub mod Traces
 pub mod Under

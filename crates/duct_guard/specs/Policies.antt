@@ -4,8 +4,7 @@ use Rattle.std.specs.declared.option.Option.{Option}
 use Rattle.std.specs.List.{list_all, list_any, starts_with}
 use Rattle.std.specs.Path.{path_components, parent_dir, slash}
 use Rattle.duct_system.specs.SpecView.{Vars}
-use Rattle.duct_guard.specs.Requests.{RequestView, spawn, read, create}
-use Rattle.duct_guard.specs.Rules.{Rules}
+use Rattle.duct_guard.specs.Rules.{RequestView, Rules, spawn, read, create}
 use Rattle.duct_guard.specs.declared.counts.Counts.{Counts}
 
 -- a limit that is none: more than any machine has
@@ -33,18 +32,14 @@ keeps_files _ = true
 abbrev pub read_only : Rules
 read_only = record all_allowed { allows = keeps_files }
 
--- what keeps within two limits
-abbrev pub least : Counts → Counts → Counts
-least one other = record {
-  ends = min one.ends other.ends;
-  children = min one.children other.children;
-}
-
--- what both allow
+-- what both allow, within the limits of both
 abbrev pub both_rules : Rules → Rules → Rules
 both_rules one other = record {
   allows = λ asked. one.allows asked && other.allows asked;
-  limits = least one.limits other.limits;
+  limits = record {
+    ends = min one.limits.ends other.limits.ends;
+    children = min one.limits.children other.limits.children;
+  };
   at_once = min one.at_once other.at_once;
 }
 
@@ -79,20 +74,18 @@ abbrev pub begins_with_slash : List ℕ → Bool
 begins_with_slash [] = false
 begins_with_slash (byte ∷ bytes) = byte == slash
 
--- whether the file of a program doesn't depend on the child's folder
-abbrev pub is_fixed : Option (List ℕ) → Vars → List ℕ → Bool
-is_fixed path vars program = begins_with_slash program || is_found path vars program
-
 -- the allowed programs, and the PATH on which names are looked up
 pub record ProgramsView : Type 0 where
   pub names : List (List ℕ)
   pub path : Option (List ℕ)
 
--- whether the first of some words is an allowed program
+-- whether the first of some words is an allowed program, whose file doesn't depend on the child's
+-- folder
 abbrev pub is_program_of : ProgramsView → Vars → List (List ℕ) → Bool
 is_program_of programs vars [] = false
 is_program_of programs vars (program ∷ arguments) =
-    is_listed programs.names program && is_fixed programs.path vars program
+    is_listed programs.names program
+    && (begins_with_slash program || is_found programs.path vars program)
 
 -- whether a request starts no other program than these
 abbrev pub starts_listed : ProgramsView → RequestView → Bool
@@ -130,13 +123,11 @@ variable_rules policy = record all_allowed { allows = keeps_variables policy }
 abbrev pub climbs : List ℕ → Bool
 climbs path = list_any (λ name. bytes_eq name parent_dir) (path_components path)
 
--- whether the names of a path begin with those of another one
-abbrev pub begins_with : List ℕ → List ℕ → Bool
-begins_with path folder = starts_with bytes_eq (path_components path) (path_components folder)
-
 -- whether a path lies at or below a folder, as both are written; nothing lies below an empty text
 abbrev pub is_below : List ℕ → List ℕ → Bool
-is_below path folder = not (length folder == 0) && begins_with path folder
+is_below path folder =
+    not (length folder == 0)
+    && starts_with bytes_eq (path_components path) (path_components folder)
 
 -- whether a path lies at or below one of these folders, as it is written
 abbrev pub lies_within : List (List ℕ) → List ℕ → Bool

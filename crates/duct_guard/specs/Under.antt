@@ -14,10 +14,8 @@ use Rattle.duct_run.specs.SystemViews.{SystemViews}
 use Rattle.duct_running.specs.Stored.{Bytes}
 use Rattle.duct.specs.Launched.{Fails, Launched, ReadFails, Reads, Returns, RunFailed, draining, reading}
 use Rattle.duct.specs.declared.expression.Expression.{Expression}
-use Rattle.duct_guard.specs.Crew.{IsCrew}
-use Rattle.duct_guard.specs.Forwarded.{ForwardsAll}
-use Rattle.duct_guard.specs.GuardView.{GuardView}
-use Rattle.duct_guard.specs.Held.{counts_of, held_after, nothing_held}
+use Rattle.duct_guard.specs.Held.{IsCrew, counts_of, held_after, nothing_held}
+use Rattle.duct_guard.specs.GuardView.{ForwardsAll, GuardView}
 use Rattle.duct_guard.specs.declared.crew.GuardedChild.{GuardedChild}
 use Rattle.duct_guard.specs.declared.counts.Held.{Held}
 use Rattle.duct_guard.specs.declared.fixed.Fixed.{Fixed}

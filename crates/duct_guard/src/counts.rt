@@ -97,21 +97,13 @@ impl Held {
             (self.new ≡ with_children (without_ends self.old (ends_of streams.now)) 1) }
         ensures none { OnErr started.now (self.new ≡ without_ends self.old (ends_of streams.now)) }
     {
-        self.spend_streams(streams);
-        if started.is_ok() {
-            self.children += 1;
-        }
-    }
-
-    // Counts the ends of some streams less, as `spend` does.
-    fn spend_streams(&mut self, streams: &[Stdio<u64>])
-        ensures ends { self.new ≡ without_ends self.old (ends_of streams.now) }
-        ensures children { self.new.children ≡ self.old.children }
-    {
         for stream in streams {
             if let Stdio::End(number) = stream {
                 self.spend(*number);
             }
+        }
+        if started.is_ok() {
+            self.children += 1;
         }
     }
 }

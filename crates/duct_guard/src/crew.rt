@@ -1,9 +1,7 @@
 //! The children that a guard started and that may still run.
-ghost use Rattle.std.specs.Prelude.{◌≡◌, true, Some, Ok, ◌<◌, ◌++◌, ◌∷◌, [], map, vec_len, vec_capacity, IfErr, OnOk, OnErr};
-ghost use Rattle.duct_guard.specs.Crew.{HasEnded, Leaves};
-ghost use Rattle.duct_guard.specs.Forwarded.{refusal};
+ghost use Rattle.std.specs.Prelude.{◌≡◌, true, Some, Ok, ◌<◌, ◌++◌, ◌∷◌, [], map, vec_len, vec_capacity, OnSome};
+ghost use Rattle.duct_guard.specs.Held.{HasEnded, Leaves};
 
-use crate::requests::no_memory;
 use duct_system::system::{Child, ExitStatus, Fault, Numbered};
 use std::alloc::Global;
 use std::marker::PhantomData;
@@ -108,23 +106,16 @@ pub(crate) fn forget_ended<C: Child>(crew: &mut Vec<Member<C>>)
     }
 }
 
-/// Makes room for one more child and returns two owners of its note. Fails only at an allocation
-/// failure.
-pub(crate) fn prepare<C: Child>(alloc: Global, crew: &mut Vec<Member<C>>) -> Result<Notes<C>, Fault>
+/// Makes room for one more child and returns two owners of its note. Returns `None` only at an
+/// allocation failure.
+pub(crate) fn prepare<C: Child>(alloc: Global, crew: &mut Vec<Member<C>>) -> Option<Notes<C>>
     ensures same { crew.new.items ≡ crew.old.items }
-    ensures ok { OnOk result (vec_len crew.new < vec_capacity crew.new) }
-    ensures err { IfErr result (λ fault. fault ≡ refusal true) }
+    ensures room { OnSome result (vec_len crew.new < vec_capacity crew.new) }
 {
-    if crew.reserve(1).is_err() {
-        return Err(no_memory());
-    }
-    let Ok(note) = Arc::new(alloc, OnceLock::new()) else {
-        return Err(no_memory());
-    };
-    match Arc::try_clone(&note) {
-        Ok(theirs) => Ok((note, theirs)),
-        Err(_) => Err(no_memory()),
-    }
+    crew.reserve(1).ok()?;
+    let note = Arc::new(alloc, OnceLock::new()).ok()?;
+    let theirs = Arc::try_clone(&note).ok()?;
+    Some((note, theirs))
 }
 
 /// Adds a child that was just started.

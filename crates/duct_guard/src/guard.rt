@@ -1,14 +1,15 @@
 //! A guarded system.
-ghost use Rattle.std.specs.Prelude.{◌≡◌, ◌≤◌, ◌<◌, [], false, length, map, string_bytes, IfOk, IfErr};
-ghost use Rattle.duct_system.specs.EntryView.{entry_view};
-ghost use Rattle.duct_guard.specs.Allowed.{AreAllowed, AreDenied};
-ghost use Rattle.duct_system.specs.EntryView.{answer_of};
-ghost use Rattle.duct_guard.specs.Closed.{ClosesFirst, SpendsEnds};
-ghost use Rattle.duct_guard.specs.Crew.{IsCrew};
-ghost use Rattle.duct_guard.specs.Ends.{GotEnd, end_entry};
-ghost use Rattle.duct_guard.specs.Forwarded.{ForwardsAll, allows_spawn};
-ghost use Rattle.duct_guard.specs.GuardView.{GuardView, Keeps, OnlyForwards};
-ghost use Rattle.duct_guard.specs.Held.{AlwaysFits, Fits, IsBegun, counts_of, held_after, nothing_held};
+ghost use Rattle.std.specs.Prelude.{◌≡◌, ◌≤◌, ◌<◌, [], false, length, map, string_bytes, IfOk, IfErr, min, Ok, Err};
+ghost use Rattle.std.specs.Arc.{arc_value};
+ghost use Rattle.duct_system.specs.EntryView.{entry_view, answer_of, Environment, Pipe, OpenRead, Create, Duplicate, Parent, Canonicalize, Spawn, Feed, Drain, Reader, Close};
+ghost use Rattle.duct_system.specs.Child.{IsUnasked};
+ghost use Rattle.duct_system.specs.Job.{unpolled_job};
+ghost use Rattle.duct_system.specs.Journal.{Asks, GetsEnds, GivesEnds, IsCleared, IsNew, IsRefused};
+ghost use Rattle.duct_system.specs.SpecView.{pair_text};
+ghost use Rattle.duct_system.specs.Streams.{stream_of, ends_of};
+ghost use Rattle.duct_guard.specs.Rules.{AreAllowed, AreDenied};
+ghost use Rattle.duct_guard.specs.GuardView.{ClosesFirst, ForwardsAll, GotEnd, GuardView, Keeps, OnlyForwards, SpendsEnds, allows_spawn, end_entry};
+ghost use Rattle.duct_guard.specs.Held.{AlwaysFits, Fits, IsBegun, IsCrew, counts_of, held_after, nothing_held};
 
 use crate::counts::{Counts, Held};
 use crate::crew::{GuardedChild, Member, forget_ended};
@@ -46,9 +47,6 @@ pub struct Guarded<S: System, P: Policy> {
 }
 
 impl<S: System, P: Policy> Model for Guarded<S, P> {
-    ghost use Rattle.std.specs.Prelude.{map};
-    ghost use Rattle.duct_guard.specs.GuardView.{GuardView};
-
     ghost Value = { GuardView S P };
 
     ghost view = { λ g. record {
@@ -190,15 +188,6 @@ fn done<T>(made: &Result<T, Fault>) -> Result<(), Fault>
 /// Ends that a refused spawn took are closed below in their order, as far as there is room for the
 /// entries. Each end from a request of the guard brings this room; without it an end is dropped.
 impl<S: System, P: Policy> System for Guarded<S, P> {
-    ghost use Rattle.std.specs.Prelude.{length, min, Ok, Err};
-    ghost use Rattle.duct_system.specs.Child.{IsUnasked};
-    ghost use Rattle.duct_system.specs.EntryView.{Environment, Pipe, OpenRead, Create, Duplicate, Parent, Canonicalize, Spawn, Feed, Drain, Reader, Close};
-    ghost use Rattle.duct_system.specs.Job.{unpolled_job};
-    ghost use Rattle.duct_system.specs.Journal.{Asks, GetsEnds, GivesEnds, IsCleared, IsNew, IsRefused};
-    ghost use Rattle.duct_system.specs.SpecView.{pair_text};
-    ghost use Rattle.duct_system.specs.Streams.{stream_of, ends_of};
-    ghost use Rattle.std.specs.Arc.{arc_value};
-
     type End = S::End;
 
     type Child = GuardedChild<S::Child>;

@@ -1,9 +1,9 @@
 //! Policies that come with the guard.
-ghost use Rattle.std.specs.Prelude.{◌≡◌, ◌&&◌, [], true, false, codes, map, string_bytes, Some, None, IfOk, OnOk, OnErr};
-ghost use Rattle.std.specs.Option.{option_map};
+ghost use Rattle.std.specs.Prelude.{◌≡◌, ◌&&◌, ℕ, List, [], true, false, map, string_bytes, Some, None, IfOk, OnOk, OnErr};
 ghost use Rattle.std.specs.List.{list_any};
+ghost use Rattle.std.specs.Option.{option_map};
 ghost use Rattle.duct_system.specs.SpecView.{pair_text};
-ghost use Rattle.duct_guard.specs.Policies.{are_kept, begins_with, begins_with_slash, climbs, has_value, is_below, is_found, is_listed};
+ghost use Rattle.duct_guard.specs.Policies.{ProgramsView, VariablesView, are_kept, at_once_rules, both_rules, climbs, folder_rules, has_value, is_below, is_found, is_listed, limit_rules, program_rules, read_only, variable_rules};
 
 use crate::counts::Counts;
 use crate::policy::{Policy, PolicyError, Request};
@@ -26,10 +26,6 @@ pub struct Programs {
 }
 
 impl Model for Programs {
-    ghost use Rattle.std.specs.Prelude.{map, string_bytes};
-    ghost use Rattle.std.specs.Option.{option_map};
-    ghost use Rattle.duct_guard.specs.Policies.{ProgramsView};
-
     ghost Value = { ProgramsView };
 
     ghost view = { λ p. record {
@@ -61,8 +57,6 @@ impl Programs {
 }
 
 impl Policy for Programs {
-    ghost use Rattle.duct_guard.specs.Policies.{program_rules};
-
     ghost rules = { program_rules };
 
     fn allows(&self, request: Request) -> bool {
@@ -71,7 +65,8 @@ impl Policy for Programs {
                 [program, ..] => {
                     let program = program.as_str();
                     is_listed(self.names.as_slice(), program)
-                        && (begins_with_slash(program) || is_found(&self.path, spec, program))
+                        && (matches!(program.as_bytes(), [b'/', ..])
+                            || is_found(&self.path, spec, program))
                 }
                 [] => false,
             },
@@ -86,12 +81,6 @@ impl Policy for Programs {
     fn at_once(&self) -> usize {
         usize::MAX
     }
-}
-
-fn begins_with_slash(text: &str) -> bool
-    ensures { result ≡ begins_with_slash text.now }
-{
-    matches!(text.as_bytes(), [b'/', ..])
 }
 
 // Returns whether a program is a name that is looked up on this path.
@@ -110,24 +99,14 @@ fn is_found(path: &Option<String>, spec: &CommandSpec, program: &str) -> bool
 fn has_value(spec: &CommandSpec, name: &str, value: &str) -> bool
     ensures { result ≡ has_value name.now value.now spec.now.vars }
 {
-    for (other, found) in spec.iter_vars() {
-        if other.as_str() == name && found.as_str() == value {
-            return true;
-        }
-    }
-    false
+    spec.iter_vars().any(|(other, found)| other.as_str() == name && found.as_str() == value)
 }
 
 // Returns whether a text is one of these.
 fn is_listed(names: &[String], text: &str) -> bool
     ensures { result ≡ is_listed (map string_bytes names.now) text.now }
 {
-    for name in names {
-        if name.as_str() == text {
-            return true;
-        }
-    }
-    false
+    names.iter().any(|name| name.as_str() == text)
 }
 
 /// Allows to open files at or below some folders alone. Paths are compared name by name, as they
@@ -144,8 +123,6 @@ pub struct Folders {
 }
 
 impl Model for Folders {
-    ghost use Rattle.std.specs.Prelude.{ℕ, List, map, string_bytes};
-
     ghost Value = { List (List ℕ) };
 
     ghost view = { λ f. map string_bytes f.folders.items };
@@ -168,8 +145,6 @@ impl Folders {
 }
 
 impl Policy for Folders {
-    ghost use Rattle.duct_guard.specs.Policies.{folder_rules};
-
     ghost rules = { folder_rules };
 
     fn allows(&self, request: Request) -> bool {
@@ -206,26 +181,14 @@ fn climbs(path: &str) -> bool
 fn is_below_one(folders: &[String], path: &str) -> bool
     ensures { result ≡ list_any (is_below path.now) (map string_bytes folders.now) }
 {
-    for folder in folders {
-        if is_below(path, folder.as_str()) {
-            return true;
-        }
-    }
-    false
+    folders.iter().any(|folder| is_below(path, folder.as_str()))
 }
 
 // Returns whether the names of a path begin with those of a folder, which isn't empty.
 fn is_below(path: &str, folder: &str) -> bool
     ensures { result ≡ is_below path.now folder.now }
 {
-    !folder.is_empty() && begins_with(path, folder)
-}
-
-// Returns whether the names of a path begin with those of another one.
-fn begins_with(path: &str, folder: &str) -> bool
-    ensures { result ≡ begins_with path.now folder.now }
-{
-    Path::new(path).starts_with(folder)
+    !folder.is_empty() && Path::new(path).starts_with(folder)
 }
 
 /// Allows to start children that have exactly the given variables: each variable of a child has to
@@ -242,10 +205,6 @@ pub struct Variables {
 }
 
 impl Model for Variables {
-    ghost use Rattle.std.specs.Prelude.{map, string_bytes};
-    ghost use Rattle.duct_system.specs.SpecView.{pair_text};
-    ghost use Rattle.duct_guard.specs.Policies.{VariablesView};
-
     ghost Value = { VariablesView };
 
     ghost view = { λ v. record {
@@ -275,8 +234,6 @@ impl Variables {
 }
 
 impl Policy for Variables {
-    ghost use Rattle.duct_guard.specs.Policies.{variable_rules};
-
     ghost rules = { variable_rules };
 
     fn allows(&self, request: Request) -> bool {
@@ -300,12 +257,9 @@ fn adds_none(free: &[String], given: &[(String, String)], spec: &CommandSpec) ->
     ensures { result ≡ are_kept (map string_bytes free.now) (map pair_text given.now)
         spec.now.vars }
 {
-    for (name, value) in spec.iter_vars() {
-        if !is_listed(free, name.as_str()) && !is_given(given, name.as_str(), value.as_str()) {
-            return false;
-        }
-    }
-    true
+    spec.iter_vars().all(|(name, value)| {
+        is_listed(free, name.as_str()) || is_given(given, name.as_str(), value.as_str())
+    })
 }
 
 // Returns whether each given variable has a free name, or the child has it.
@@ -313,24 +267,16 @@ fn misses_none(free: &[String], given: &[(String, String)], spec: &CommandSpec) 
     ensures { result ≡ are_kept (map string_bytes free.now) spec.now.vars
         (map pair_text given.now) }
 {
-    for (name, value) in given {
-        if !is_listed(free, name.as_str()) && !has_value(spec, name.as_str(), value.as_str()) {
-            return false;
-        }
-    }
-    true
+    given.iter().all(|(name, value)| {
+        is_listed(free, name.as_str()) || has_value(spec, name.as_str(), value.as_str())
+    })
 }
 
 // Returns whether one of some variables has exactly this name and this value.
 fn is_given(given: &[(String, String)], name: &str, value: &str) -> bool
     ensures { result ≡ has_value name.now value.now (map pair_text given.now) }
 {
-    for (other, found) in given {
-        if other.as_str() == name && found.as_str() == value {
-            return true;
-        }
-    }
-    false
+    given.iter().any(|(other, found)| other.as_str() == name && found.as_str() == value)
 }
 
 /// Allows no file to be created or truncated. All other requests are allowed, so what a child does
@@ -339,8 +285,6 @@ fn is_given(given: &[(String, String)], name: &str, value: &str) -> bool
 pub struct ReadOnly;
 
 impl Policy for ReadOnly {
-    ghost use Rattle.duct_guard.specs.Policies.{read_only};
-
     ghost rules = { λ _. read_only };
 
     fn allows(&self, request: Request) -> bool {
@@ -362,8 +306,6 @@ impl Policy for ReadOnly {
 pub struct Limits(pub Counts);
 
 impl Policy for Limits {
-    ghost use Rattle.duct_guard.specs.Policies.{limit_rules};
-
     ghost rules = { λ limits. limit_rules limits.0 };
 
     fn allows(&self, _request: Request) -> bool {
@@ -385,8 +327,6 @@ impl Policy for Limits {
 pub struct AtOnce(pub usize);
 
 impl Policy for AtOnce {
-    ghost use Rattle.duct_guard.specs.Policies.{at_once_rules};
-
     ghost rules = { λ children. at_once_rules children.0 };
 
     fn allows(&self, _request: Request) -> bool {
@@ -410,8 +350,6 @@ pub struct Both<P, Q> {
 }
 
 impl<P: Policy, Q: Policy> Policy for Both<P, Q> {
-    ghost use Rattle.duct_guard.specs.Policies.{both_rules};
-
     ghost rules = { λ both. both_rules (P.rules both.first) (Q.rules both.second) };
 
     fn allows(&self, request: Request) -> bool {

@@ -1,7 +1,6 @@
 //! What a guarded system may be asked, and why a policy can't be made.
 ghost use Rattle.std.specs.Prelude.{◌≡◌};
-ghost use Rattle.duct_guard.specs.Requests.{request_view};
-ghost use Rattle.duct_guard.specs.Rules.{Rules};
+ghost use Rattle.duct_guard.specs.Rules.{Rules, request_view};
 
 use crate::counts::Counts;
 use duct_system::spec::CommandSpec;

@@ -1,26 +1,22 @@
 //! Requests to the system below, where a guard does more than to pass them on: it looks at its
 //! policy, or copies what the request takes or returns.
 ghost use Rattle.std.specs.Prelude.{◌≡◌, ◌<◌, ◌≤◌, ◌+◌, false, true, ◌⊎◌, ◌&&◌, min, nat_le, length, map, string_bytes, vec_len, vec_capacity, IfOk, IfErr, OnOk, OnErr, Ok, Err, ◌-◌};
+ghost use Rattle.std.specs.Arc.{arc_value};
 ghost use Rattle.duct_system.specs.Child.{IsUnasked};
 ghost use Rattle.duct_system.specs.EntryView.{Environment, Pipe, Canonicalize, Spawn, Feed, answer_of, entry_view};
 ghost use Rattle.duct_system.specs.Job.{unpolled_job};
 ghost use Rattle.duct_system.specs.Journal.{GetsEnds, IsNew};
 ghost use Rattle.duct_system.specs.SpecView.{pair_text};
 ghost use Rattle.duct_system.specs.Streams.{stream_of, ends_of, end_of};
-ghost use Rattle.duct_guard.specs.Closed.{ClosesFirst, SpendsEnds};
-ghost use Rattle.duct_guard.specs.Crew.{Joins, Leaves};
-ghost use Rattle.duct_guard.specs.Ends.{GotEnd, asked_of, end_entry, path_of};
-ghost use Rattle.duct_guard.specs.Forwarded.{IsForwarded, allows_spawn, refusal};
-ghost use Rattle.duct_guard.specs.Requests.{request_view};
-ghost use Rattle.duct_guard.specs.Rules.{Rules};
+ghost use Rattle.duct_guard.specs.GuardView.{ClosesFirst, GotEnd, IsForwarded, SpendsEnds, allows_spawn, asked_of, end_entry, path_of, refusal};
+ghost use Rattle.duct_guard.specs.Held.{Joins, Leaves};
+ghost use Rattle.duct_guard.specs.Rules.{Rules, request_view};
 ghost use Rattle.duct_guard.specs.declared.counts.Held.{Held};
-ghost use Rattle.std.specs.Arc.{arc_value};
 
 use crate::counts::Held;
 use crate::crew::{GuardedChild, Member, Notes, forget_ended, join, prepare};
 use crate::policy::{Policy, Request};
 use duct_system::copy::{copies_of, spec_copy};
-use duct_system::journal::Journal;
 use duct_system::spec::CommandSpec;
 use duct_system::system::{Child, Entry, Fault, Kind, Numbered, Side, Stdio, System};
 use std::alloc::Global;
@@ -32,8 +28,8 @@ fn forbidden() -> Fault
     Fault::new(Kind::PermissionDenied)
 }
 
-/// Returns the fault at an allocation failure.
-pub(crate) fn no_memory() -> Fault
+// Returns the fault at an allocation failure.
+fn no_memory() -> Fault
     ensures { result ≡ refusal true }
 {
     Fault::new(Kind::OutOfMemory)
@@ -301,7 +297,9 @@ fn prepared<P: Policy, C: Child>(
     if !may_spawn(policy, held, spec) || crew.len() >= policy.at_once() {
         return Err(forbidden());
     }
-    let notes = prepare(alloc, crew)?;
+    let Some(notes) = prepare(alloc, crew) else {
+        return Err(no_memory());
+    };
     match spec_copy(alloc, spec) {
         Ok(copy) => Ok((copy, notes)),
         Err(_) => Err(no_memory()),

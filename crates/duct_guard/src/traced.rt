@@ -1,9 +1,12 @@
 //! A traced system.
-ghost use Rattle.std.specs.Prelude.{◌≡◌, IfOk, string_bytes, None};
+ghost use Rattle.std.specs.Prelude.{◌≡◌, IfOk, string_bytes, None, ◌≤◌, min, length, map, Ok, Err, IfErr};
 ghost use Rattle.std.specs.Option.{option_copied};
-ghost use Rattle.duct_guard.specs.Line.{line_in, line_of};
-ghost use Rattle.duct_guard.specs.Traces.{Traces};
+ghost use Rattle.duct_system.specs.Child.{IsUnasked};
+ghost use Rattle.duct_system.specs.EntryView.{Spawn};
+ghost use Rattle.duct_system.specs.Journal.{GivesEnds, IsNew, IsRefused};
+ghost use Rattle.duct_system.specs.Streams.{stream_of, ends_of};
 ghost use Rattle.duct_worker.specs.Transfer.{Writes};
+ghost use Rattle.duct_guard.specs.Traces.{Traces, line_in, line_of};
 
 use duct_system::spec::CommandSpec;
 use duct_system::system::{Entry, Fault, Side, Stdio, System};
@@ -134,12 +137,6 @@ fn write_stopped<W: Write>(writer: &mut W, bytes: &[u8]) -> Option<ErrorKind>
 
 /// Each request is that of the system below, with its result. Before a spawn its line is written.
 impl<S: System, W: Write> System for Traced<S, W> {
-    ghost use Rattle.std.specs.Prelude.{◌≤◌, min, length, map, Ok, Err, IfOk, IfErr};
-    ghost use Rattle.duct_system.specs.Child.{IsUnasked};
-    ghost use Rattle.duct_system.specs.EntryView.{Spawn};
-    ghost use Rattle.duct_system.specs.Journal.{GivesEnds, IsNew, IsRefused};
-    ghost use Rattle.duct_system.specs.Streams.{stream_of, ends_of};
-
     type End = S::End;
 
     type Child = S::Child;

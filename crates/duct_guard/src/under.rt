@@ -1,6 +1,6 @@
 //! A read and a run under a policy, also where its rules are known only while the program runs.
 ghost use Rattle.std.specs.Prelude.{◌≡◌, ◌≤◌, []};
-ghost use Rattle.duct_guard.specs.Allowed.{AreAllowed};
+ghost use Rattle.duct_guard.specs.Rules.{AreAllowed};
 ghost use Rattle.duct_guard.specs.Held.{Fits, IsBegun};
 ghost use Rattle.duct_guard.specs.Under.{Guards, IsLeft, IsRead, IsRun, guard_views};
 

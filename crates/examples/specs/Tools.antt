@@ -1,8 +1,7 @@
 -- What a build step may do.
 use Rattle.std.specs.Prelude.{ℕ, Bool, false, true, List, [], ◌∷◌, bytes_eq, codes}
 use Rattle.duct_guard.specs.Policies.{no_limit, unlimited}
-use Rattle.duct_guard.specs.Requests.{RequestView, spawn, read, create}
-use Rattle.duct_guard.specs.Rules.{Rules}
+use Rattle.duct_guard.specs.Rules.{RequestView, Rules, spawn, read, create}
 
 -- whether the first of some words is /bin/echo
 abbrev pub is_tool : List (List ℕ) → Bool

@@ -1,6 +1,6 @@
 //! Build steps over a guard, of which a clause says what they may do.
 ghost use Rattle.std.specs.Prelude.{◌≡◌, []};
-ghost use Rattle.duct_guard.specs.Allowed.{AreAllowed};
+ghost use Rattle.duct_guard.specs.Rules.{AreAllowed};
 ghost use Rattle.examples.specs.Tools.{tool_rules};
 
 use duct::{Error, Expression, Pool, System, cmd};

@@ -1,6 +1,6 @@
 use Rattle.std.proofs.Common.{refl, sym}
 use Rattle.duct_guard.proofs.Guarding.{failed, forbidden, lost_path}
-use Rattle.duct_guard.proofs.Limiting.{as_allowed}
+use Rattle.duct_guard.proofs.Holding.{as_allowed}
 use Rattle.duct_guard.proofs.requests.canonicalize_noted.Goals as goal
 
 pub returns-then-not-allows-clause-forwards : goal.returns-then-not-allows-clause-forwards

@@ -1,6 +1,6 @@
 use Rattle.std.proofs.Common.{sym, ◌∙◌}
-use Rattle.duct_guard.proofs.Ends.{end_answered, end_forbidden}
-use Rattle.duct_guard.proofs.Limiting.{on_ok}
+use Rattle.duct_guard.proofs.Guarding.{end_answered, end_forbidden}
+use Rattle.duct_guard.proofs.Holding.{on_ok}
 use Rattle.duct_guard.proofs.requests.end_allowed.Goals as goal
 
 pub returns-then-may_open-clause-forwards : goal.returns-then-may_open-clause-forwards

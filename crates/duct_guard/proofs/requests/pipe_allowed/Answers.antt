@@ -1,6 +1,6 @@
 use Rattle.std.proofs.Common.{refl, sym, ◌∙◌}
 use Rattle.duct_guard.proofs.Guarding.{forbidden, pipe_answered}
-use Rattle.duct_guard.proofs.Limiting.{on_ok}
+use Rattle.duct_guard.proofs.Holding.{on_ok}
 use Rattle.duct_guard.proofs.requests.pipe_allowed.Goals as goal
 
 pub returns-then-allows_ends-clause-forwards : goal.returns-then-allows_ends-clause-forwards

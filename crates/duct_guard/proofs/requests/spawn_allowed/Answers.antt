@@ -3,7 +3,7 @@ use Rattle.std.proofs.Common.{ap, arith, sym, subst, length, map, vec_len, inl, 
 use Rattle.duct_system.specs.EntryView.{Spawn}
 use Rattle.duct_system.specs.Journal.{IsRefused}
 use Rattle.duct_system.specs.Streams.{stream_of, ends_of}
-use Rattle.duct_guard.specs.Closed.{ClosesFirst}
+use Rattle.duct_guard.specs.GuardView.{ClosesFirst}
 use Rattle.duct_guard.proofs.Closing.{ends_numbered, streams_count}
 use Rattle.duct_guard.proofs.Crews.{few_left, joins_crew}
 use Rattle.duct_guard.proofs.Guarding.{child_answered, child_refused}

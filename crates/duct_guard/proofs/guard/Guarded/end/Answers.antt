@@ -1,8 +1,8 @@
 use Rattle.std.proofs.Common.{refl, ◌∙◌, ap}
-use Rattle.duct_guard.specs.Ends.{end_entry}
+use Rattle.duct_guard.specs.GuardView.{end_entry}
 use Rattle.duct_guard.proofs.Below.{none_asked, one_asked}
 use Rattle.duct_guard.proofs.Counting.{noted_end, notes, ready_for}
-use Rattle.duct_guard.proofs.Ends.{opens_end}
+use Rattle.duct_guard.proofs.Guarding.{opens_end}
 use Rattle.duct_guard.proofs.guard.Guarded.end.Goals as goal
 
 pub invariant_of-self-inside-2 : goal.invariant_of-self-inside-2

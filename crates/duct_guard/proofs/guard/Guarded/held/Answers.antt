@@ -1,7 +1,7 @@
 use Rattle.std.proofs.Common.{ap, subst, sym, ◌≡◌, ◌∙◌}
 use Rattle.duct_guard.specs.GuardView.{GuardView}
 use Rattle.duct_guard.specs.Held.{Fits, counts_of, held_after}
-use Rattle.duct_guard.proofs.Limiting.{now_fits}
+use Rattle.duct_guard.proofs.Holding.{now_fits}
 use Rattle.duct_guard.proofs.guard.Guarded.held.Goals as goal
 
 pub returns-clause-counted : goal.returns-clause-counted

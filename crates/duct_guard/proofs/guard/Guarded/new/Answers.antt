@@ -2,7 +2,7 @@ use Rattle.std.proofs.Common.{arith, ap, rules}
 use Rattle.std.proofs.lemmas.Grind.{common_steps}
 use Rattle.duct_system.specs.Journal.{JournalView}
 use Rattle.duct_guard.specs.declared.counts.Held.{Held}
-use Rattle.duct_guard.proofs.Beginning.{begun_first}
+use Rattle.duct_guard.proofs.Holding.{begun_first}
 use Rattle.duct_guard.proofs.Crews.{no_crew}
 use Rattle.duct_guard.proofs.Guarding.{nothing_noted}
 use Rattle.duct_guard.proofs.guard.Guarded.new.Goals as goal

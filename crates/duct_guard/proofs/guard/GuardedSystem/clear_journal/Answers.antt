@@ -1,9 +1,8 @@
 use Rattle.std.proofs.Common.{ap, arith, refl}
 use Rattle.duct_system.specs.Journal.{JournalView}
-use Rattle.duct_guard.proofs.Beginning.{begun_again}
+use Rattle.duct_guard.proofs.Holding.{begun_again, now_fits}
 use Rattle.duct_guard.proofs.Crews.{crew_cleared}
 use Rattle.duct_guard.proofs.Guarding.{nothing_noted}
-use Rattle.duct_guard.proofs.Limiting.{now_fits}
 use Rattle.duct_guard.proofs.guard.GuardedSystem.clear_journal.Goals as goal
 
 pub invariant_of-self-inside : goal.invariant_of-self-inside

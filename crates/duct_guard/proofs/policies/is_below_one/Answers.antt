@@ -1,0 +1,13 @@
+use Rattle.std.specs.Prelude.{string_bytes}
+use Rattle.std.proofs.Common.{rules, tests, ◌∙◌}
+use Rattle.std.proofs.lemmas.Iterator.{YieldsList-from_slice}
+use Rattle.std.proofs.lemmas.Iterator.Search.{any_from_yields_List}
+use Rattle.duct_guard.specs.Policies.{is_below}
+use Rattle.duct_guard.proofs.Prefixes.{any_seen}
+use Rattle.duct_guard.proofs.policies.is_below_one.Goals as goal
+
+pub returns : goal.returns
+returns c =
+    any_from_yields_List (λ folder. is_below c.args.path.now (string_bytes folder)) _ _ _ c.any.ensures.ran
+    (YieldsList-from_slice c.args.folders.now cc) (λ x b q k. search (rules, tests))
+    ∙ any_seen (is_below c.args.path.now) string_bytes c.args.folders.now

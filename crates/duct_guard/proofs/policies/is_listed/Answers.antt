@@ -1,0 +1,12 @@
+use Rattle.std.specs.Prelude.{bytes_eq, string_bytes}
+use Rattle.std.proofs.Common.{rules, tests, ◌∙◌}
+use Rattle.std.proofs.lemmas.Iterator.{YieldsList-from_slice}
+use Rattle.std.proofs.lemmas.Iterator.Search.{any_from_yields_List}
+use Rattle.duct_guard.proofs.Prefixes.{any_seen}
+use Rattle.duct_guard.proofs.policies.is_listed.Goals as goal
+
+pub returns : goal.returns
+returns c =
+    any_from_yields_List (λ name. bytes_eq (string_bytes name) c.args.text.now) _ _ _ c.any.ensures.ran
+    (YieldsList-from_slice c.args.names.now cc) (λ x b q k. search (rules, tests))
+    ∙ any_seen (λ name. bytes_eq name c.args.text.now) string_bytes c.args.names.now
