@@ -1,9 +1,9 @@
 -- Bytes are written as text where they are UTF-8, and else as numbers.
-use Rattle.std.proofs.Common.{◌≡◌, ℕ, List, map, Bool, true, false, if◌then◌else◌, refl, ap, sym, ◌∙◌}
-use Rattle.std.specs.Str.{IsUtf8, is_utf8}
+use Rattle.std.proofs.Common.{◌≡◌, ℕ, List, map, Bool, true, false, if◌then◌else◌, refl, ap, sym, ◌∙◌, IsUtf8}
+use Rattle.std.specs.Str.{is_utf8}
 use Rattle.std.proofs.lemmas.Str.{IsUtf8-from_is_utf8, is_utf8-from_IsUtf8}
 use Rattle.serde_json.specs.Data.{Data, string}
-use Rattle.duct_replay.specs.EntryData.{bytes_data, list_data, number_data}
+use Rattle.duct_replay.specs.Lines.{bytes_data, list_data, number_data}
 
 chosen : List ℕ → Bool → Data
 chosen bytes text = if text then string bytes else list_data (map number_data bytes)

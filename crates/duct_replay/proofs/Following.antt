@@ -1,9 +1,6 @@
 -- How a journal retraces a recording after one more entry, and after it was cleared.
-use Rattle.std.specs.Prelude.{ℕ, Bool, true, false, List, [], ◌∷◌, ◌++◌, ◌+◌, ◌<◌, ◌≤◌, length, take, slice_get, suc, Some, None, Ok, Err, IfErr, OnOk, OnErr}
-use Rattle.std.specs.declared.option.Option.{Option}
-use Rattle.std.specs.declared.result.Result.{Result}
-use Rattle.std.proofs.Common.{◌≡◌, ◌≢◌, refl, ap, sym, subst, ◌∙◌, arith, append_assoc, length-append}
-use Rattle.std.proofs.lemmas.List.{append-nil, take-append-le, get_or_append_left}
+use Rattle.std.proofs.Common.{ℕ, Bool, true, false, List, [], ◌∷◌, ◌++◌, ◌+◌, ◌<◌, ◌≤◌, length, take, slice_get, suc, Some, None, Ok, Err, IfErr, OnOk, OnErr, Option, Result, ◌≡◌, ◌≢◌, refl, ap, sym, subst, ◌∙◌, arith, append_assoc, length-append, append-nil}
+use Rattle.std.proofs.lemmas.List.{take-append-le, get_or_append_left}
 use Rattle.std.proofs.lemmas.Option.{slice_get_within, slice_get-get_or, get_or_from_slice_get}
 use Rattle.std.proofs.Math.Seq.{take-append_seam, take-suc, get_or-append_seam}
 use mathlib.Core.Logic.{∥∥₁_map}
@@ -11,8 +8,7 @@ use Rattle.duct_system.specs.EntryView.{EntryView}
 use Rattle.duct_system.specs.Journal.{JournalView}
 use Rattle.duct_system.specs.declared.system.Fault.{Fault}
 use Rattle.duct_system.specs.declared.system.Kind.TheVariants.{OutOfMemory}
-use Rattle.duct_replay.specs.Answers.{IsToldRight}
-use Rattle.duct_replay.specs.Replays.{Agrees, DiffersAt, Retraces, difference_after, entry_at}
+use Rattle.duct_replay.specs.Replays.{IsToldRight, Agrees, DiffersAt, Retraces, difference_after, entry_at}
 
 -- one more entry makes a list longer by one
 longer : (asked : List EntryView) (entry : EntryView) → length (asked ++ entry ∷ []) ≡ length asked + 1

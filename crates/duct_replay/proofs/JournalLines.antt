@@ -1,19 +1,16 @@
 -- The lines of items, one behind the other, mean these items.
-use Rattle.std.proofs.Common.{◌≡◌, ℕ, ◌+◌, ◌-◌, ◌==◌, List, [], ◌∷◌, ◌++◌, map, length, take, Bool, true, false, cond, if◌then◌else◌, Ok, Some, refl, ap, sym, subst, ◌∙◌, append_assoc, arith}
-use Rattle.std.specs.List.{All, AllByRecursion, slice_split, onto_first}
-use Rattle.std.specs.Prelude.{slice_index, flat_map, ⊤}
+use Rattle.std.proofs.Common.{◌≡◌, ℕ, ◌+◌, ◌-◌, ◌==◌, List, [], ◌∷◌, ◌++◌, map, length, take, Bool, true, false, cond, if◌then◌else◌, Ok, Some, refl, ap, sym, subst, ◌∙◌, append_assoc, arith, All, slice_index, flat_map, append-nil}
+use Rattle.std.specs.List.{slice_split, onto_first}
+use Rattle.std.specs.Prelude.{⊤}
 use Rattle.std.specs.Str.Lines.{lines, lines_of_parts, strip_carriage_return}
 use Rattle.std.proofs.lemmas.Grind.{flat_map-append}
-use Rattle.std.proofs.lemmas.List.{append-nil}
 use Rattle.std.proofs.lemmas.List.Elements.{All-from_recursion}
 use Rattle.std.proofs.lemmas.List.Splits.{slice_split_at}
 use Rattle.serde_json.specs.Read.{read}
 use Rattle.serde_json.specs.Written.{compact_text}
 use Rattle.duct_system.specs.EntryView.{EntryView}
 use Rattle.duct_system.specs.declared.system.ExitStatus.{ExitStatus}
-use Rattle.duct_replay.specs.EntryData.{IsWritable, ItemView, Noted, Ended, Read, item_data, item_text}
-use Rattle.duct_replay.specs.JournalMeant.{AllRead, ReadsFirst, RecordedView, at_line, entries_read, entries_text, journal_meant, lines_meant, recorded_items, recorded_text, recording_meant, with_item}
-use Rattle.duct_replay.specs.Meant.{item_line}
+use Rattle.duct_replay.specs.Lines.{IsWritable, ItemView, Noted, Ended, Read, item_data, item_text, AllRead, ReadsFirst, RecordedView, at_line, entries_read, entries_text, journal_meant, lines_meant, recorded_items, recorded_text, recording_meant, with_item, item_line}
 use Rattle.duct_replay.specs.declared.write.Variables.{Variables}
 use Rattle.duct_replay.specs.declared.write.Variables.TheVariants.{Shown}
 use Rattle.duct_replay.proofs.Line.{meant_again}

@@ -1,7 +1,6 @@
 -- What was read so far, followed by what is read of the other lines.
-use Rattle.std.proofs.Common.{◌++◌, Ok, Err}
-use Rattle.std.specs.declared.result.Result.{Result}
-use Rattle.duct_replay.specs.JournalMeant.{RecordedView}
+use Rattle.std.proofs.Common.{◌++◌, Ok, Err, Result}
+use Rattle.duct_replay.specs.Lines.{RecordedView}
 use Rattle.duct_replay.specs.declared.error.LineRefusal.{LineRefusal}
 
 abbrev pub joined : RecordedView → RecordedView → RecordedView

@@ -1,10 +1,10 @@
 -- The text of an item, read back.
-use Rattle.std.proofs.Common.{◌≡◌, ℕ, ◌≤◌, List, false, Some, Ok, ap, sym, subst, ◌∙◌, arith}
+use Rattle.std.proofs.Common.{◌≡◌, ℕ, ◌≤◌, List, false, Some, Ok, ok_or, ap, sym, subst, ◌∙◌, arith}
 use Rattle.serde_json.specs.Data.{Data, depth}
 use Rattle.serde_json.specs.Written.{compact_text, has_float}
 use Rattle.serde_json.specs.Read.{max_depth, read}
-use Rattle.duct_replay.specs.EntryData.{IsWritable, ItemView, item_data}
-use Rattle.duct_replay.specs.Meant.{item_line, json_item}
+use Rattle.duct_replay.specs.Lines.{IsWritable, ItemView, item_data, item_line, item_meant, ◌>>=◌}
+use Rattle.duct_replay.specs.declared.error.Refusal.TheVariants.{NotJson}
 use Rattle.duct_replay.specs.declared.write.Variables.{Variables}
 use Rattle.duct_replay.specs.declared.write.Variables.TheVariants.{Shown}
 use Rattle.duct_replay.proofs.RoundTrip.{item_back}
@@ -24,7 +24,7 @@ pub meant_again : (variables : Variables) (item : ItemView) (text : List ℕ) �
     → variables ≡ Shown → read text ≡ Some (item_data variables item) → item_line text ≡ Ok item
 unfolding item_line
 meant_again variables item text writable shown is =
-    ap json_item (is ∙ ap (λ variables. Some (item_data variables item)) shown) ∙ item_back item writable
+    ap (λ read. ok_or read NotJson >>= item_meant) (is ∙ ap (λ variables. Some (item_data variables item)) shown) ∙ item_back item writable
 
 -- an item has no float, so its text is known
 pub text_again : (variables : Variables) (item : ItemView) (json : Data) (text : List ℕ)

@@ -1,9 +1,8 @@
 -- Lists as the items of an array.
-use Rattle.std.specs.Prelude.{List, [], ◌∷◌}
-use Rattle.std.proofs.Common.{◌≡◌, refl, ap}
+use Rattle.std.proofs.Common.{List, [], ◌∷◌, ◌≡◌, refl, ap}
 use Rattle.serde_json.specs.Data.{Data}
 use Rattle.serde_json.specs.View.{items_of}
-use Rattle.duct_replay.specs.Meant.{list_of}
+use Rattle.duct_replay.specs.Lines.{list_of}
 
 pub list_of_items : (items : List Data) → list_of (items_of items) ≡ items
 list_of_items [] = refl

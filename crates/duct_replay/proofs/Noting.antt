@@ -1,18 +1,11 @@
 -- What was read of an end, after one more read.
-use Rattle.std.specs.Prelude.{ℕ, List, [], ◌++◌, Ok, Some, None, IfSome}
-use Rattle.std.specs.declared.option.Option.{Option}
-use Rattle.std.proofs.Common.{◌≡◌, ◌<◌, length, refl, ap, sym, subst, ◌∙◌, append_assoc}
-use Rattle.std.proofs.lemmas.List.{append-nil}
+use Rattle.std.proofs.Common.{ℕ, List, [], ◌++◌, Ok, Some, None, IfSome, Option, ◌≡◌, ◌<◌, length, refl, ap, sym, subst, ◌∙◌, append_assoc, append-nil, Global, Vec, Result}
 use Rattle.std.specs.Io.KnownBytes.{Consumes, IsAtEnd, Keeps, ReadConsumes}
-use Rattle.std.specs.declared.alloc.Global.{Global}
-use Rattle.std.specs.declared.vec.Vec.{Vec}
 use Rattle.std.specs.declared.io.Error.{Error}
-use Rattle.std.specs.declared.result.Result.{Result}
 use mathlib.Core.Logic.{∥∥₁_map}
 use Rattle.duct_system.specs.declared.system.Said.{Said}
 use Rattle.duct_system.specs.declared.system.Said.TheVariants.{Done}
-use Rattle.duct_replay.specs.Ended.{Shared, bytes_of}
-use Rattle.duct_replay.specs.Noted.{HasGiven, HasGivenAll, KeepsMore, MayGive, ByReader, ByWorker}
+use Rattle.duct_replay.specs.RecordingView.{Shared, bytes_of, HasGiven, HasGivenAll, KeepsMore, MayGive, ByReader, ByWorker}
 
 -- known bytes lose some, and then more
 lose_more : (first old new : Option (List ℕ)) (bytes more : List ℕ) → Consumes first old bytes

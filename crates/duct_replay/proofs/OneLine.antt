@@ -1,10 +1,8 @@
 -- The compact text of JSON without floats has no newline and no carriage return.
-use Rattle.std.proofs.Common.{◌≡◌, ℕ, zero, suc, ◌+◌, ◌/◌, ◌%◌, ◌<◌, ◌==◌, ◌||◌, List, [], ◌∷◌, ◌++◌, Bool, true, false, cond, if◌then◌else◌, nat_lt, refl, sym, subst, arith}
-use Rattle.std.specs.Prelude.{pos, negsuc}
+use Rattle.std.proofs.Common.{◌≡◌, ℕ, zero, suc, ◌+◌, ◌/◌, ◌%◌, ◌<◌, ◌==◌, ◌||◌, List, [], ◌∷◌, ◌++◌, Bool, true, false, cond, if◌then◌else◌, nat_lt, refl, sym, subst, arith, pos, negsuc, true≢false, ne_eqb, eqb-true}
 use Rattle.std.specs.Char.{digit_char}
 use Rattle.std.specs.Fmt.{decimal, digits, digits_onto, digit_glyph}
 use Rattle.std.specs.List.{AllByRecursion}
-use Rattle.std.proofs.lemmas.Bool.{true≢false, ne_eqb, eqb-true}
 use Rattle.json.specs.Print.{escape, escape_byte, escape_letter, quoted}
 use Rattle.serde_json.specs.Data.{Num, unsigned, negative, float, Data, null, boolean, number, string, array, object, Items, no_items, item, Members, no_members, member}
 use Rattle.serde_json.specs.Written.{compact_text, items_text, members_text, number_text, comma_if, has_float, items_have_float, members_have_float}

@@ -1,16 +1,14 @@
 -- Variables in order of name that are set one by one are the same variables.
-use Rattle.std.specs.Prelude.{ℕ, List, [], ◌∷◌, ◌++◌}
+use Rattle.std.proofs.Common.{ℕ, List, [], ◌∷◌, ◌++◌, ◌≡◌, refl, ap, sym, subst, ◌∙◌, append_assoc, append-nil}
 use Rattle.std.specs.Map.{keys_of}
 use Rattle.std.specs.List.{AllByRecursion}
 use Rattle.std.specs.List.Sorted.{IsStrictlySortedBy}
 use Rattle.std.specs.Ordering.{match_ordering, ordering_reverse}
 use Rattle.std.specs.declared.cmp.Ordering.TheVariants.{Less, Greater}
-use Rattle.std.proofs.Common.{◌≡◌, refl, ap, sym, subst, ◌∙◌, append_assoc}
-use Rattle.std.proofs.lemmas.List.{append-nil}
 use Rattle.duct_system.specs.Name.{name_cmp}
 use Rattle.duct_system.specs.SpecView.{Vars, AreOrdered, with_var}
 use Rattle.duct_system.proofs.Variables.{name_total}
-use Rattle.duct_replay.specs.Meant.{set_in_turn}
+use Rattle.duct_replay.specs.Lines.{set_in_turn}
 
 -- a name behind names that are above this one is above it
 is_above : (x k v : List ℕ) (done rest : Vars)

@@ -1,6 +1,5 @@
 -- What was read so far, followed by what is read of the rest.
-use Rattle.std.proofs.Common.{List, ◌++◌, Ok, Err}
-use Rattle.std.specs.declared.result.Result.{Result}
+use Rattle.std.proofs.Common.{List, ◌++◌, Ok, Err, Result}
 use Rattle.duct_replay.specs.declared.error.Refusal.{Refusal}
 
 -- these values, followed by those that are read

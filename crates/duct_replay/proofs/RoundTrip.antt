@@ -1,9 +1,6 @@
 -- What an item is written as means that item.
-use Rattle.std.proofs.Common.{◌≡◌, ℕ, suc, ◌<◌, List, [], ◌∷◌, ◌++◌, map, length, Bool, true, false, Some, None, Ok, Err, if◌then◌else◌, refl, ap, sym, ◌∙◌, arith, rules}
-use Rattle.std.specs.Prelude.{ℤ, pos, negsuc, codes}
+use Rattle.std.proofs.Common.{◌≡◌, ℕ, suc, ◌<◌, List, [], ◌∷◌, ◌++◌, map, Bool, true, false, Some, None, Ok, Err, if◌then◌else◌, refl, ap, ◌∙◌, arith, rules, ℤ, pos, negsuc, codes, Option, Result}
 use Rattle.std.specs.Str.{is_utf8}
-use Rattle.std.specs.declared.option.Option.{Option}
-use Rattle.std.specs.declared.result.Result.{Result}
 use Rattle.serde_json.specs.Data.{Data, number, string}
 use Rattle.serde_json.specs.Find.{of_integer}
 use Rattle.duct_system.specs.EntryView.{EntryView, Environment, Pipe, OpenRead, Create, Duplicate, Parent, Canonicalize, Spawn, Feed, Drain, Reader, Close}
@@ -19,10 +16,8 @@ use Rattle.duct_system.specs.declared.system.Side.{Side}
 use Rattle.duct_system.specs.declared.system.Side.TheVariants as sides
 use Rattle.duct_system.specs.declared.system.Stdio.{Stdio}
 use Rattle.duct_system.specs.declared.system.Stdio.TheVariants.{Inherit, Null, End}
-use Rattle.duct_replay.specs.EntryData.{AreBytes, Ended, IsSmall, IsWritable, ItemView, Noted, Read, answer_data, bytes_data, entry_data, folder_data, item_data, kind_name, list_data, number_answer_data, number_data, port_data, ports_data, request_data, result_data, side_name, status_data, stream_data, variable_data, variables_data}
-use Rattle.duct_replay.specs.Meant.{◌>>=◌, all_meant, answer_meant, byte_meant, bytes_meant, ending_meant, ends_answer, ends_meant, fault_meant, feed_meant, first_meant, folder_meant, integer_meant, item_meant, item_named, kind_named, list_meant, named_meant, number_answer, number_meant, only_meant, output_meant, pair_meant, port_meant, ports_meant, returned_as, side_named, spawn_meant, spec_meant, status_named, stream_meant, streams_meant, text_answer, text_meant, unit_answer, unit_meant, value_meant, variable_meant, variables_answer, variables_meant, words_meant}
+use Rattle.duct_replay.specs.Lines.{AreBytes, Ended, IsSmall, IsWritable, ItemView, Noted, Read, answer_data, bytes_data, entry_data, folder_data, item_data, kind_name, list_data, number_answer_data, number_data, port_data, ports_data, request_data, result_data, side_name, status_data, stream_data, variable_data, variables_data, ◌>>=◌, all_meant, answer_meant, byte_meant, bytes_meant, ending_meant, ends_answer, ends_meant, fault_meant, feed_meant, first_meant, folder_meant, integer_meant, item_meant, item_named, kind_named, list_meant, named_meant, number_answer, number_meant, only_meant, output_meant, pair_meant, port_meant, ports_meant, returned_as, side_named, spawn_meant, spec_meant, status_named, stream_meant, streams_meant, text_answer, text_meant, unit_answer, unit_meant, value_meant, variable_meant, variables_answer, variables_meant, words_meant}
 use Rattle.duct_replay.specs.declared.error.Refusal.{Refusal}
-use Rattle.duct_replay.specs.declared.write.Variables.{Variables}
 use Rattle.duct_replay.specs.declared.write.Variables.TheVariants.{Shown}
 use Rattle.duct_replay.proofs.Lists.{list_of_items}
 use Rattle.duct_replay.proofs.Ordered.{set_again}

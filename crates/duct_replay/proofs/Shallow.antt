@@ -1,9 +1,6 @@
 -- What an item is written as nests no deeper than three, and has no float.
-use Rattle.std.proofs.Common.{◌≡◌, ℕ, suc, ◌≤◌, List, [], ◌∷◌, ◌++◌, map, Bool, true, false, Some, None, Ok, Err, if◌then◌else◌, refl, arith}
-use Rattle.std.specs.Prelude.{ℤ, pos, negsuc, codes}
+use Rattle.std.proofs.Common.{◌≡◌, ℕ, suc, ◌≤◌, List, [], ◌∷◌, ◌++◌, map, Bool, true, false, Some, None, Ok, Err, if◌then◌else◌, refl, arith, ℤ, pos, negsuc, codes, Option, Result}
 use Rattle.std.specs.Str.{is_utf8}
-use Rattle.std.specs.declared.option.Option.{Option}
-use Rattle.std.specs.declared.result.Result.{Result}
 use Rattle.std.specs.List.{AllByRecursion}
 use Rattle.serde_json.specs.Data.{Data, number, string, depth}
 use Rattle.serde_json.specs.Find.{of_integer}
@@ -19,7 +16,7 @@ use Rattle.duct_system.specs.declared.system.Stdio.{Stdio}
 use Rattle.duct_system.specs.declared.system.Stdio.TheVariants.{Inherit, Null, End}
 use Rattle.duct_replay.specs.declared.write.Variables.{Variables}
 use Rattle.duct_replay.specs.declared.write.Variables.TheVariants.{Shown, Hidden}
-use Rattle.duct_replay.specs.EntryData.{Ended, ItemView, Noted, Read, answer_data, bytes_data, entry_data, folder_data, item_data, list_data, number_answer_data, number_data, port_data, ports_data, request_data, result_data, side_name, status_data, stream_data, value_data, variable_data, variables_data}
+use Rattle.duct_replay.specs.Lines.{Ended, ItemView, Noted, Read, answer_data, bytes_data, entry_data, folder_data, item_data, list_data, number_answer_data, number_data, port_data, ports_data, request_data, result_data, side_name, status_data, stream_data, value_data, variable_data, variables_data}
 
 -- it nests no deeper than this, and has no float
 pub record IsPlain (n : ℕ) (json : Data) : Type 0 where

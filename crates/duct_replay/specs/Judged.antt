@@ -1,13 +1,11 @@
 -- What is judged: a start of an expression over a replay of some entries.
-use Rattle.std.specs.Prelude.{ℕ, ◌<◌, ◌≤◌, Bool, true, false, List, [], ◌≡◌, ◌≢◌, length, take, slice_get, Err, Some, None}
+use Rattle.std.specs.Prelude.{ℕ, ◌<◌, ◌≤◌, Bool, true, false, List, [], ◌≡◌, ◌≢◌, length, take, slice_get, Err, Some, None, Option}
 use Rattle.std.specs.List.{list_any}
-use Rattle.std.specs.declared.option.Option.{Option}
 use Rattle.duct_system.specs.EntryView.{EntryView, Spawn}
 use Rattle.duct_system.specs.Journal.{JournalView}
 use Rattle.duct_system.specs.Trace.{fault_of}
 use Rattle.duct_system.specs.declared.error.Error.{Error}
 use Rattle.duct_system.specs.declared.error.Error.TheVariants.{System, Hook, Memory}
-use Rattle.duct_system.specs.declared.system.Fault.{Fault}
 use Rattle.duct_system.specs.declared.system.Kind.{Kind}
 use Rattle.duct_system.specs.declared.system.Kind.TheVariants.{OutOfMemory}
 use Rattle.duct_start.specs.Chain.{Allows, Refuses}
@@ -16,10 +14,6 @@ use Rattle.duct_start.specs.Start.{StartRefused, StartSucceeds}
 use Rattle.duct_start.specs.TreeView.{TreeView}
 use Rattle.duct_replay.specs.declared.judgement.Verdict.{Verdict}
 use Rattle.duct_replay.specs.declared.judgement.Verdict.TheVariants.{Yes, Differs, Ends, GoesOn}
-
--- the journal of a system that was asked nothing
-abbrev pub unasked : JournalView
-unasked = record { entries = []; added = 0; next = 1; room = 0 }
 
 -- a start of a tree whose stdout is read, from one journal to another: it succeeded, or failed with
 -- this error
@@ -90,6 +84,7 @@ pub record Judges {E H : Type 0} (allows : Allows H) (refuses : Refuses H) (numb
     (tree : TreeView E H) (recorded : List EntryView) (verdict : Verdict) (made : JournalView)
     : Type 0 where
   pub error : Option Error
-  pub starts : Starts allows refuses number_of tree unasked made error
+  pub starts : Starts allows refuses number_of tree
+      (record { entries = []; added = 0; next = 1; room = 0 }) made error
   pub right : IsRight verdict recorded made.entries
   pub memory : HadMemory (place_of verdict recorded) recorded made.entries error

@@ -1,10 +1,4 @@
-pub mod Answers
-pub mod Ended
-pub mod EntryData
-pub mod JournalMeant
 pub mod Judged
-pub mod Meant
-pub mod Noted
+pub mod Lines
 pub mod RecordingView
 pub mod Replays
-pub mod Views

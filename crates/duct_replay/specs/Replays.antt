@@ -1,12 +1,76 @@
--- What contracts see of a replay, and how a request changes it.
-use Rattle.std.specs.Prelude.{ℕ, Bool, true, false, List, [], ◌∷◌, ◌++◌, ◌+◌, ◌-◌, ◌<◌, ◌≡◌, ◌≢◌, ◌⊎◌, Err, Some, None, length, take, slice_get}
-use Rattle.std.specs.declared.option.Option.{Option}
-use Rattle.std.specs.declared.result.Result.{Result}
-use Rattle.duct_system.specs.EntryView.{EntryView}
-use Rattle.duct_system.specs.Journal.{JournalView}
+-- What contracts see of a replay and of what it returns, and how a request changes it.
+use Rattle.std.specs.Prelude.{ℕ, Bool, true, false, Ok, Err, Some, None, ◌≡◌, ◌≢◌, ◌⊎◌, ◌+◌, ◌<◌, ◌≤◌, ◌^◌, option_copied, option_map, Option, Result, IsErrAnd, List, [], ◌∷◌, ◌++◌, ◌-◌, length, take, slice_get, min, drop, if◌then◌else◌}
+use Rattle.std.specs.Borrow.{Bor}
+use Rattle.duct_system.specs.EntryView.{EntryView, entry_view}
+use Rattle.duct_system.specs.declared.system.Entry.{Entry}
 use Rattle.duct_system.specs.declared.system.Fault.{Fault}
-use Rattle.duct_replay.specs.Answers.{AnswersAs, no_memory}
-use Rattle.duct_replay.specs.RecordingView.{RecordingView}
+use Rattle.duct_system.specs.Journal.{JournalView}
+use Rattle.duct_replay.specs.RecordingView.{RecordingView, Shared, bytes_of, had, no_memory, unrecorded}
+use Rattle.std.specs.IoError.{error_kind}
+use Rattle.std.specs.declared.io.Error.{Error}
+use Rattle.std.specs.declared.io.ErrorKind.TheVariants.{OutOfMemory, Other}
+use Rattle.duct_system.specs.Child.{ChildView}
+use Rattle.duct_system.specs.Job.{JobView}
+use Rattle.duct_system.specs.declared.system.Said.TheVariants as said
+use Rattle.duct_replay.specs.declared.replayed.ReplayChild.{ReplayChild}
+use Rattle.duct_replay.specs.declared.replayed.ReplayDrain.{ReplayDrain}
+use Rattle.duct_replay.specs.declared.replayed.ReplayFeed.{ReplayFeed}
+use Rattle.duct_replay.specs.declared.replayed.ReplayReader.{ReplayReader}
+
+-- a number that can be given next
+pub record IsNext (next number : ℕ) : Type 0 where
+  pub unused : next ≤ number
+  pub countable : number + 1 < 2 ^ 64
+
+-- the number of a result, if it has one, can be given next
+abbrev pub FitsNumber : ℕ → Result ℕ Fault → Type 0
+FitsNumber next (Ok number) = IsNext next number
+FitsNumber next (Err fault) = Unit {0}
+
+-- so can the two numbers of a pipe, which are not the same
+abbrev pub FitsPipe : ℕ → Result (ℕ × ℕ) Fault → Type 0
+FitsPipe next (Ok (reader, writer)) = IsNext next reader × IsNext next writer × (reader ≢ writer)
+FitsPipe next (Err fault) = Unit {0}
+
+-- the same as for a number, and it isn't OutOfMemory
+abbrev pub FitsChild : ℕ → Result ℕ Fault → Type 0
+FitsChild next answer = FitsNumber next answer × (answer ≢ Err no_memory)
+
+-- each result can be returned
+abbrev pub Fits : {T : Type 0} → Result T Fault → Type 0
+Fits answer = Unit {0}
+
+-- a request returns what the next entry has for it (true), or fails with Other where the next entry
+-- is not this request with a result that fits (false)
+abbrev pub Answers : {T : Type 0} → (Result T Fault → EntryView) → (Result T Fault → Type 0)
+    → Option EntryView → Result T Fault → Bool → Type 0
+Answers entry fits next answer true = (next ≡ Some (entry answer)) × fits answer
+Answers {T} entry fits next answer false =
+    (answer ≡ Err unrecorded) × ((other : Result T Fault) → fits other → next ≢ Some (entry other))
+
+-- whether an entry is the one that is recorded next
+abbrev pub IsToldRight : Bool → EntryView → Option EntryView → Type 0
+IsToldRight true entry next = next ≡ Some entry
+IsToldRight false entry next = next ≢ Some entry
+
+-- what was found for a request: a result that fits, and whether the next entry is the request with it
+pub record Finds {T : Type 0} (entry : Result T Fault → EntryView) (fits : Result T Fault → Type 0)
+    (next : Option EntryView) (answer : Result T Fault) (agrees : Bool) : Type 0 where
+  pub answers : Answers entry fits next answer agrees
+  pub has_fit : fits answer
+  pub told : IsToldRight agrees (entry answer) next
+
+-- the fault where there was no memory to compare what was recorded: it isn't the recorded one
+abbrev pub IsLost : {T : Type 0} → (Result T Fault → EntryView) → Option EntryView → Fault → Type 0
+IsLost {T} entry next fault =
+    (next ≢ Some (entry (Err fault)))
+    × ((fault ≡ no_memory)
+    ⊎ ((fault ≡ unrecorded)
+    × ((answer : Result T Fault) → answer ≢ Err no_memory → next ≢ Some (entry answer))))
+
+-- the entry that is recorded next as contracts see it
+abbrev pub next_view : Option (Bor Entry) → Option EntryView
+next_view next = option_map entry_view (option_copied next)
 
 -- the recording; the place of the first entry that differs, if one does; and the journal
 pub record ReplayView : Type 0 where
@@ -51,7 +115,7 @@ pub record Steps (old new : ReplayView) : Type 0 where
 pub record Replays {T : Type 0} (entry : Result T Fault → EntryView)
     (fits : Result T Fault → Type 0) (old : ReplayView) (answer : Result T Fault)
     (new : ReplayView) : Type 0 where
-  pub answers : AnswersAs entry fits (next_of old) answer
+  pub answers : (agrees : Bool) × Answers entry fits (next_of old) answer agrees
   pub steps : Steps old new
 
 -- the same, or it fails with OutOfMemory
@@ -78,3 +142,50 @@ Retraces recorded entries added difference =
     (cleared : List EntryView)
     × (length cleared + length entries ≡ added)
     × Agrees recorded (cleared ++ entries) difference
+
+-- a child; its id is its number, at most 2 ^ 32 - 1
+abbrev pub child_view : ReplayChild → ChildView
+child_view child = record {
+  number = child.number;
+  process = min child.number (2 ^ 32 - 1);
+  polls = child.polls;
+  last = child.last;
+  ending = child.ending;
+  orders = child.orders.items;
+}
+
+-- a worker that writes
+abbrev pub feed_view : ReplayFeed → JobView (Unit {0})
+feed_view feed = record {
+  number = feed.number;
+  polls = feed.polls;
+  kept = if feed.is_done then said.Done tt else said.Running;
+}
+
+-- a worker that reads
+abbrev pub drain_view : ReplayDrain → JobView Shared
+drain_view drain = record { number = drain.number; polls = drain.polls; kept = drain.kept.value }
+
+-- the bytes that are left, if it has bytes
+abbrev pub left_of : ReplayReader → Option (List ℕ)
+left_of reader = option_map (λ shared. drop reader.given (bytes_of shared)) (had reader.bytes)
+
+-- a reader of the end with this number, of which nothing is read
+pub record IsUnread (number : ℕ) (reader : ReplayReader) : Type 0 where
+  pub number_is : reader.number ≡ number
+  pub given_is : reader.given ≡ 0
+
+-- a read into so much room returned how many bytes it gave, of which so many were given before: as
+-- many as are left and fit; or it failed with Other, where none are recorded, or with OutOfMemory,
+-- where they could have no further owner
+abbrev pub ReadsOf : Result (Option Shared) Fault → ℕ → ℕ → Result ℕ Error → Type 0
+ReadsOf (Ok (Some bytes)) given room result =
+    result ≡ Ok (min (length (drop given (bytes_of bytes))) room)
+ReadsOf (Ok None) given room result = IsErrAnd result (λ error. error_kind error ≡ Other)
+ReadsOf (Err fault) given room result =
+    IsErrAnd result (λ error. error_kind error ≡ OutOfMemory)
+
+-- the bytes that were found are these, or they could have no further owner
+abbrev pub HasFound : Option (List ℕ) → Result (Option Shared) Fault → Type 0
+HasFound recorded (Ok found) = option_map bytes_of found ≡ recorded
+HasFound recorded (Err fault) = fault ≡ no_memory

@@ -3,7 +3,8 @@ ghost use Rattle.std.specs.Prelude.{◌≡◌, ◌↔◌, map, string_bytes, IfO
 ghost use Rattle.std.specs.Arc.{arc_value};
 ghost use Rattle.duct_system.specs.EntryView.{answer_of, Environment, Pipe, OpenRead, Create, Duplicate, Parent, Canonicalize, Spawn, Feed, Drain, Reader, Close};
 ghost use Rattle.duct_system.specs.SpecView.{pair_text};
-ghost use Rattle.duct_replay.specs.Answers.{Finds, Fits, FitsNumber, FitsPipe, IsNext, IsLost, IsToldRight, next_view, no_memory, unrecorded};
+ghost use Rattle.duct_replay.specs.Replays.{Finds, Fits, FitsNumber, FitsPipe, IsNext, IsLost, IsToldRight, next_view};
+ghost use Rattle.duct_replay.specs.RecordingView.{no_memory, unrecorded};
 
 use duct_system::copy::copies_of;
 use duct_system::same::{same_spec, same_streams};

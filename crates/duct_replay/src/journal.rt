@@ -2,8 +2,7 @@
 ghost use Rattle.std.specs.Prelude.{◌≡◌, ◌≢◌, Ok, map, string_bytes, Err, IfErr, IfOk, OnOk};
 ghost use Rattle.std.specs.Str.Lines.{lines};
 ghost use Rattle.duct_system.specs.EntryView.{entry_view};
-ghost use Rattle.duct_replay.specs.JournalMeant.{AddsItem, JournalParses, entries_text, journal_meant, lines_meant, recorded_text, recorded_view, recording_meant};
-ghost use Rattle.duct_replay.specs.Meant.{item_line};
+ghost use Rattle.duct_replay.specs.Lines.{AddsItem, JournalParses, entries_text, journal_meant, lines_meant, recorded_text, recorded_view, recording_meant, item_line};
 ghost use Rattle.duct_replay.specs.declared.error.Refusal.{Refusal};
 ghost use Rattle.duct_replay.specs.declared.write.Variables.{Variables};
 
@@ -68,7 +67,7 @@ pub fn read_journal(alloc: Global, text: &str) -> Result<Vec<Entry>, LineRefusal
 ///
 /// Fails at the first line that is read as no item, and with `Refusal::Memory` at an allocation
 /// failure.
-#[tactic(auto, unfolding(crate::specs::JournalMeant::recording_meant))]
+#[tactic(auto, unfolding(crate::specs::Lines::recording_meant))]
 pub fn read_recording(alloc: Global, text: &str) -> Result<Recording, LineRefusal>
     ensures { JournalParses recorded_view result (recording_meant text.now) }
 {

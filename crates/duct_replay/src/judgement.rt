@@ -1,9 +1,9 @@
 //! Whether a journal is that of a start of an expression.
-ghost use Rattle.std.specs.Prelude.{◌≡◌, ◌↔◌, map, IfOk, IsTrue};
-ghost use Rattle.std.specs.List.{list_any, slice_get};
+ghost use Rattle.std.specs.Prelude.{◌≡◌, ◌↔◌, map, IfOk, IsTrue, slice_get};
+ghost use Rattle.std.specs.List.{list_any};
 ghost use Rattle.duct_system.specs.EntryView.{entry_view};
 ghost use Rattle.duct.specs.TreeView.{tree_view};
-ghost use Rattle.duct_replay.specs.Answers.{next_view};
+ghost use Rattle.duct_replay.specs.Replays.{next_view};
 ghost use Rattle.duct_replay.specs.Judged.{HadMemory, IsLostSpawn, IsRight, Judges, SameBefore, Starts, is_memory, lacks_memory, place_of, stops_without_memory};
 
 use crate::recording::Recording;

@@ -1,8 +1,8 @@
 //! The parts of an entry, read from a line's JSON.
-ghost use Rattle.std.specs.Prelude.{[], map, string_bytes};
-ghost use Rattle.std.specs.Option.{option_map};
+ghost use Rattle.std.specs.Prelude.{[], map, string_bytes, option_map};
+ghost use Rattle.duct_system.specs.EntryView.{answer_of};
 ghost use Rattle.duct_system.specs.SpecView.{pair_text};
-ghost use Rattle.duct_replay.specs.Meant.{text_meant, number_meant, list_meant, first_meant, only_meant, kind_named, fault_meant, answer_meant, unit_meant, ends_meant, unit_answer, number_answer, ends_answer, text_answer, value_meant, pair_meant, variable_meant, variables_meant, variables_answer, byte_meant, bytes_meant, folder_meant, port_meant, stream_meant, ports_meant, streams_meant, side_named, all_meant, words_meant, ParsesAs, returned_view};
+ghost use Rattle.duct_replay.specs.Lines.{text_meant, number_meant, list_meant, first_meant, only_meant, kind_named, fault_meant, answer_meant, unit_meant, ends_meant, unit_answer, number_answer, ends_answer, text_answer, value_meant, pair_meant, variable_meant, variables_meant, variables_answer, byte_meant, bytes_meant, folder_meant, port_meant, stream_meant, ports_meant, streams_meant, side_named, all_meant, words_meant, ParsesAs};
 ghost use Rattle.serde_json.specs.View.{view};
 
 use crate::error::Refusal;
@@ -13,7 +13,7 @@ use std::alloc::Global;
 
 // ---- values
 
-#[tactic(auto, unfolding(crate::specs::Meant::text_meant))]
+#[tactic(auto, unfolding(crate::specs::Lines::text_meant))]
 pub(crate) fn text(value: &Value) -> Result<&str, Refusal>
     ensures { ParsesAs (λ text. text.now) result (text_meant (view value.now)) }
 {
@@ -26,14 +26,14 @@ pub(crate) fn text_copy(alloc: Global, value: &Value) -> Result<String, Refusal>
     Ok(String::from_str(alloc, text(value)?)?)
 }
 
-#[tactic(auto, unfolding(crate::specs::Meant::number_meant))]
+#[tactic(auto, unfolding(crate::specs::Lines::number_meant))]
 pub(crate) fn number(value: &Value) -> Result<u64, Refusal>
     ensures { ParsesAs (λ n. n) result (number_meant (view value.now)) }
 {
     value.as_u64().ok_or(Refusal::NotEntry)
 }
 
-#[tactic(auto, using(crate::proofs::Lists::list_of_items), unfolding(crate::specs::Meant::list_meant))]
+#[tactic(auto, using(crate::proofs::Lists::list_of_items), unfolding(crate::specs::Lines::list_meant))]
 pub(crate) fn list(value: &Value) -> Result<&[Value], Refusal>
     ensures { ParsesAs (λ items. map view items.now) result (list_meant (view value.now)) }
 {
@@ -44,7 +44,7 @@ pub(crate) fn list(value: &Value) -> Result<&[Value], Refusal>
 }
 
 /// The first of these, and those behind it.
-#[tactic(auto, unfolding(crate::specs::Meant::first_meant))]
+#[tactic(auto, unfolding(crate::specs::Lines::first_meant))]
 pub(crate) fn first(items: &[Value]) -> Result<(&Value, &[Value]), Refusal>
     ensures { ParsesAs (λ parts. (view parts.0.now, map view parts.1.now)) result
         (first_meant (map view items.now)) }
@@ -53,7 +53,7 @@ pub(crate) fn first(items: &[Value]) -> Result<(&Value, &[Value]), Refusal>
 }
 
 /// The item of these that is the only one.
-#[tactic(auto, unfolding(crate::specs::Meant::only_meant))]
+#[tactic(auto, unfolding(crate::specs::Lines::only_meant))]
 pub(crate) fn only(items: &[Value]) -> Result<&Value, Refusal>
     ensures { ParsesAs (λ item. view item.now) result (only_meant (map view items.now)) }
 {
@@ -65,7 +65,7 @@ pub(crate) fn only(items: &[Value]) -> Result<&Value, Refusal>
 
 // ---- answers
 
-#[tactic(auto, unfolding(crate::specs::Meant::kind_named))]
+#[tactic(auto, unfolding(crate::specs::Lines::kind_named))]
 fn kind_named(name: &str) -> Result<Kind, Refusal>
     ensures { ParsesAs (λ kind. kind) result (kind_named name.now) }
 {
@@ -83,7 +83,7 @@ fn kind_named(name: &str) -> Result<Kind, Refusal>
 }
 
 // The fault whose kind stands alone here.
-#[tactic(auto, unfolding(crate::specs::Meant::fault_meant))]
+#[tactic(auto, unfolding(crate::specs::Lines::fault_meant))]
 fn fault(values: &[Value]) -> Result<Fault, Refusal>
     ensures { ParsesAs (λ fault. fault) result (fault_meant (map view values.now)) }
 {
@@ -92,9 +92,9 @@ fn fault(values: &[Value]) -> Result<Fault, Refusal>
 }
 
 // An answer: what was returned, or a fault.
-#[tactic(auto, unfolding(crate::specs::Meant::answer_meant))]
+#[tactic(auto, unfolding(crate::specs::Lines::answer_meant))]
 fn answer(items: &[Value]) -> Result<Result<&[Value], Fault>, Refusal>
-    ensures { ParsesAs (returned_view (λ values. map view values.now)) result
+    ensures { ParsesAs (answer_of (λ values. map view values.now)) result
         (answer_meant (map view items.now)) }
 {
     let (word, values) = first(items)?;
@@ -105,7 +105,7 @@ fn answer(items: &[Value]) -> Result<Result<&[Value], Fault>, Refusal>
     }
 }
 
-#[tactic(auto, unfolding(crate::specs::Meant::unit_answer, crate::specs::Meant::unit_meant))]
+#[tactic(auto, unfolding(crate::specs::Lines::unit_answer, crate::specs::Lines::unit_meant))]
 pub(crate) fn unit_answer(items: &[Value]) -> Result<Result<(), Fault>, Refusal>
     ensures { ParsesAs (λ answer. answer) result (unit_answer (map view items.now)) }
 {
@@ -116,7 +116,7 @@ pub(crate) fn unit_answer(items: &[Value]) -> Result<Result<(), Fault>, Refusal>
     }
 }
 
-#[tactic(auto, unfolding(crate::specs::Meant::number_answer))]
+#[tactic(auto, unfolding(crate::specs::Lines::number_answer))]
 pub(crate) fn number_answer(items: &[Value]) -> Result<Result<u64, Fault>, Refusal>
     ensures { ParsesAs (λ answer. answer) result (number_answer (map view items.now)) }
 {
@@ -127,7 +127,7 @@ pub(crate) fn number_answer(items: &[Value]) -> Result<Result<u64, Fault>, Refus
 }
 
 /// An answer that returned a read end and a write end.
-#[tactic(auto, unfolding(crate::specs::Meant::ends_answer, crate::specs::Meant::ends_meant))]
+#[tactic(auto, unfolding(crate::specs::Lines::ends_answer, crate::specs::Lines::ends_meant))]
 pub(crate) fn ends_answer(items: &[Value]) -> Result<Result<(u64, u64), Fault>, Refusal>
     ensures { ParsesAs (λ answer. answer) result (ends_answer (map view items.now)) }
 {
@@ -138,9 +138,9 @@ pub(crate) fn ends_answer(items: &[Value]) -> Result<Result<(u64, u64), Fault>, 
     }
 }
 
-#[tactic(auto, unfolding(crate::specs::Meant::text_answer))]
+#[tactic(auto, unfolding(crate::specs::Lines::text_answer))]
 pub(crate) fn text_answer(alloc: Global, items: &[Value]) -> Result<Result<String, Fault>, Refusal>
-    ensures { ParsesAs (returned_view string_bytes) result (text_answer (map view items.now)) }
+    ensures { ParsesAs (answer_of string_bytes) result (text_answer (map view items.now)) }
 {
     match answer(items)? {
         Ok(values) => Ok(Ok(text_copy(alloc, only(values)?)?)),
@@ -148,12 +148,12 @@ pub(crate) fn text_answer(alloc: Global, items: &[Value]) -> Result<Result<Strin
     }
 }
 
-#[tactic(auto, unfolding(crate::specs::Meant::variables_answer))]
+#[tactic(auto, unfolding(crate::specs::Lines::variables_answer))]
 pub(crate) fn variables_answer(
     alloc: Global,
     items: &[Value],
 ) -> Result<Result<Vec<(String, String)>, Fault>, Refusal>
-    ensures { ParsesAs (returned_view (λ pairs. map pair_text pairs.items)) result
+    ensures { ParsesAs (answer_of (λ pairs. map pair_text pairs.items)) result
         (variables_answer (map view items.now)) }
 {
     match answer(items)? {
@@ -164,7 +164,7 @@ pub(crate) fn variables_answer(
 
 // ---- variables, words, bytes
 
-#[tactic(auto, unfolding(crate::specs::Meant::variables_meant))]
+#[tactic(auto, unfolding(crate::specs::Lines::variables_meant))]
 pub(crate) fn variables(alloc: Global, value: &Value) -> Result<Vec<(String, String)>, Refusal>
     ensures { ParsesAs (λ pairs. map pair_text pairs.items) result
         (variables_meant (view value.now)) }
@@ -178,7 +178,7 @@ pub(crate) fn variables(alloc: Global, value: &Value) -> Result<Vec<(String, Str
     Ok(pairs)
 }
 
-#[tactic(auto, unfolding(crate::specs::Meant::variable_meant, crate::specs::Meant::pair_meant))]
+#[tactic(auto, unfolding(crate::specs::Lines::variable_meant, crate::specs::Lines::pair_meant))]
 fn variable(alloc: Global, value: &Value) -> Result<(String, String), Refusal>
     ensures { ParsesAs pair_text result (variable_meant (view value.now)) }
 {
@@ -188,7 +188,7 @@ fn variable(alloc: Global, value: &Value) -> Result<(String, String), Refusal>
     }
 }
 
-#[tactic(auto, unfolding(crate::specs::Meant::value_meant))]
+#[tactic(auto, unfolding(crate::specs::Lines::value_meant))]
 fn variable_value(alloc: Global, value: &Value) -> Result<String, Refusal>
     ensures { ParsesAs string_bytes result (value_meant (view value.now)) }
 {
@@ -199,7 +199,7 @@ fn variable_value(alloc: Global, value: &Value) -> Result<String, Refusal>
     }
 }
 
-#[tactic(auto, unfolding(crate::specs::Meant::words_meant))]
+#[tactic(auto, unfolding(crate::specs::Lines::words_meant))]
 pub(crate) fn words(alloc: Global, value: &Value) -> Result<Vec<String>, Refusal>
     ensures { ParsesAs (λ words. map string_bytes words.items) result
         (words_meant (view value.now)) }
@@ -214,7 +214,7 @@ pub(crate) fn words(alloc: Global, value: &Value) -> Result<Vec<String>, Refusal
 }
 
 /// Bytes: those of a text, or the numbers of an array.
-#[tactic(auto, unfolding(crate::specs::Meant::bytes_meant))]
+#[tactic(auto, unfolding(crate::specs::Lines::bytes_meant))]
 pub(crate) fn bytes(alloc: Global, value: &Value) -> Result<Vec<u8>, Refusal>
     ensures { ParsesAs (λ bytes. bytes.items) result (bytes_meant (view value.now)) }
 {
@@ -236,7 +236,7 @@ fn numbered_bytes(alloc: Global, values: &[Value]) -> Result<Vec<u8>, Refusal>
     Ok(bytes)
 }
 
-#[tactic(auto, unfolding(crate::specs::Meant::byte_meant))]
+#[tactic(auto, unfolding(crate::specs::Lines::byte_meant))]
 fn byte(value: &Value) -> Result<u8, Refusal>
     ensures { ParsesAs (λ byte. byte) result (byte_meant (view value.now)) }
 {
@@ -251,7 +251,7 @@ fn byte(value: &Value) -> Result<u8, Refusal>
 // ---- folders, ports, streams
 
 /// A folder, or none where it is null.
-#[tactic(auto, unfolding(crate::specs::Meant::folder_meant))]
+#[tactic(auto, unfolding(crate::specs::Lines::folder_meant))]
 pub(crate) fn folder(alloc: Global, value: &Value) -> Result<Option<String>, Refusal>
     ensures { ParsesAs (option_map string_bytes) result (folder_meant (view value.now)) }
 {
@@ -262,7 +262,7 @@ pub(crate) fn folder(alloc: Global, value: &Value) -> Result<Option<String>, Ref
     }
 }
 
-#[tactic(auto, unfolding(crate::specs::Meant::ports_meant))]
+#[tactic(auto, unfolding(crate::specs::Lines::ports_meant))]
 pub(crate) fn ports(value: &Value) -> Result<(Port, Port, Port), Refusal>
     ensures { ParsesAs (λ ports. ports) result (ports_meant (view value.now)) }
 {
@@ -273,7 +273,7 @@ pub(crate) fn ports(value: &Value) -> Result<(Port, Port, Port), Refusal>
 }
 
 // A port: its name, or the place of an end.
-#[tactic(auto, unfolding(crate::specs::Meant::port_meant, crate::specs::Meant::number_meant))]
+#[tactic(auto, unfolding(crate::specs::Lines::port_meant, crate::specs::Lines::number_meant))]
 fn port(value: &Value) -> Result<Port, Refusal>
     ensures { ParsesAs (λ port. port) result (port_meant (view value.now)) }
 {
@@ -289,7 +289,7 @@ fn port(value: &Value) -> Result<Port, Refusal>
     }
 }
 
-#[tactic(auto, unfolding(crate::specs::Meant::streams_meant))]
+#[tactic(auto, unfolding(crate::specs::Lines::streams_meant))]
 pub(crate) fn streams(value: &Value) -> Result<(Stdio<u64>, Stdio<u64>, Stdio<u64>), Refusal>
     ensures { ParsesAs (λ streams. streams) result (streams_meant (view value.now)) }
 {
@@ -300,7 +300,7 @@ pub(crate) fn streams(value: &Value) -> Result<(Stdio<u64>, Stdio<u64>, Stdio<u6
 }
 
 // A stream: its name, or the number of its end.
-#[tactic(auto, unfolding(crate::specs::Meant::stream_meant, crate::specs::Meant::number_meant))]
+#[tactic(auto, unfolding(crate::specs::Lines::stream_meant, crate::specs::Lines::number_meant))]
 fn stream(value: &Value) -> Result<Stdio<u64>, Refusal>
     ensures { ParsesAs (λ stream. stream) result (stream_meant (view value.now)) }
 {
@@ -316,7 +316,7 @@ fn stream(value: &Value) -> Result<Stdio<u64>, Refusal>
 }
 
 /// The output stream of the parent with this name.
-#[tactic(auto, unfolding(crate::specs::Meant::side_named))]
+#[tactic(auto, unfolding(crate::specs::Lines::side_named))]
 pub(crate) fn side_named(name: &str) -> Result<Side, Refusal>
     ensures { ParsesAs (λ side. side) result (side_named name.now) }
 {

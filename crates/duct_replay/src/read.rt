@@ -1,8 +1,8 @@
 //! What a line says: an entry, how a child ended, or what was read of an end.
 ghost use Rattle.std.specs.Prelude.{◌≡◌, map, OnOk};
 ghost use Rattle.duct_system.specs.EntryView.{entry_view};
-ghost use Rattle.duct_system.specs.SpecView.{pair_text, with_var};
-ghost use Rattle.duct_replay.specs.Meant.{ParsesAs, ending_meant, feed_meant, integer_meant, item_line, item_meant, item_named, item_view, line_meant, named_meant, output_meant, set_in_turn, spawn_meant, spec_meant, status_named};
+ghost use Rattle.duct_system.specs.SpecView.{pair_text};
+ghost use Rattle.duct_replay.specs.Lines.{ParsesAs, ending_meant, feed_meant, integer_meant, item_line, item_meant, item_named, item_view, line_meant, named_meant, output_meant, set_in_turn, spawn_meant, spec_meant, status_named};
 ghost use Rattle.serde_json.specs.View.{view};
 
 use crate::error::Refusal;
@@ -23,7 +23,7 @@ use std::sync::Arc;
 ///
 /// Fails with `Refusal::Memory` at an allocation failure, and else only where the line means no
 /// entry, with the first reason from left to right.
-#[tactic(auto, unfolding(crate::specs::Meant::line_meant))]
+#[tactic(auto, unfolding(crate::specs::Lines::line_meant))]
 pub fn read_entry(alloc: Global, line: &str) -> Result<Entry, Refusal>
     ensures { ParsesAs entry_view result (line_meant line.now) }
 {
@@ -45,7 +45,7 @@ pub(crate) enum Item {
 }
 
 /// Returns the item of a line. Fails as `read_entry` does.
-#[tactic(auto, unfolding(crate::specs::Meant::item_line))]
+#[tactic(auto, unfolding(crate::specs::Lines::item_line))]
 pub(crate) fn read_item(alloc: Global, line: &str) -> Result<Item, Refusal>
     ensures { ParsesAs item_view result (item_line line.now) }
 {
@@ -57,7 +57,7 @@ pub(crate) fn read_item(alloc: Global, line: &str) -> Result<Item, Refusal>
 }
 
 // The item that was written as this value.
-#[tactic(auto, unfolding(crate::specs::Meant::item_meant))]
+#[tactic(auto, unfolding(crate::specs::Lines::item_meant))]
 fn item_of(alloc: Global, line: &Value) -> Result<Item, Refusal>
     ensures { ParsesAs item_view result (item_meant (view line.now)) }
 {
@@ -65,7 +65,7 @@ fn item_of(alloc: Global, line: &Value) -> Result<Item, Refusal>
     item_named(alloc, text(name)?, items)
 }
 
-#[tactic(auto, unfolding(crate::specs::Meant::item_named))]
+#[tactic(auto, unfolding(crate::specs::Lines::item_named))]
 fn item_named(alloc: Global, name: &str, items: &[Value]) -> Result<Item, Refusal>
     ensures { ParsesAs item_view result (item_named name.now (map view items.now)) }
 {
@@ -82,7 +82,7 @@ fn item_named(alloc: Global, name: &str, items: &[Value]) -> Result<Item, Refusa
     }
 }
 
-#[tactic(auto, unfolding(crate::specs::Meant::ending_meant, crate::specs::Meant::status_named))]
+#[tactic(auto, unfolding(crate::specs::Lines::ending_meant, crate::specs::Lines::status_named))]
 fn ending(items: &[Value]) -> Result<(u64, ExitStatus), Refusal>
     ensures { ParsesAs (λ ending. ending) result (ending_meant (map view items.now)) }
 {
@@ -98,7 +98,7 @@ fn ending(items: &[Value]) -> Result<(u64, ExitStatus), Refusal>
     }
 }
 
-#[tactic(auto, unfolding(crate::specs::Meant::output_meant))]
+#[tactic(auto, unfolding(crate::specs::Lines::output_meant))]
 fn output(alloc: Global, items: &[Value]) -> Result<(u64, Vec<u8>), Refusal>
     ensures { ParsesAs (λ output. (output.0, output.1.items)) result
         (output_meant (map view items.now)) }
@@ -109,7 +109,7 @@ fn output(alloc: Global, items: &[Value]) -> Result<(u64, Vec<u8>), Refusal>
 }
 
 // The integer of 32 bits that a value is.
-#[tactic(auto, unfolding(crate::specs::Meant::integer_meant))]
+#[tactic(auto, unfolding(crate::specs::Lines::integer_meant))]
 fn integer(value: &Value) -> Result<i32, Refusal>
     ensures { ParsesAs (λ n. n) result (integer_meant (view value.now)) }
 {
@@ -122,7 +122,7 @@ fn integer(value: &Value) -> Result<i32, Refusal>
 // ---- entries
 
 // The entry of the request with this name.
-#[tactic(auto, unfolding(crate::specs::Meant::named_meant))]
+#[tactic(auto, unfolding(crate::specs::Lines::named_meant))]
 fn named(alloc: Global, name: &str, items: &[Value]) -> Result<Entry, Refusal>
     ensures { ParsesAs entry_view result (named_meant name.now (map view items.now)) }
 {
@@ -161,7 +161,7 @@ fn named(alloc: Global, name: &str, items: &[Value]) -> Result<Entry, Refusal>
     }
 }
 
-#[tactic(auto, unfolding(crate::specs::Meant::feed_meant))]
+#[tactic(auto, unfolding(crate::specs::Lines::feed_meant))]
 fn feed(alloc: Global, items: &[Value]) -> Result<Entry, Refusal>
     ensures { ParsesAs entry_view result (feed_meant (map view items.now)) }
 {
@@ -173,7 +173,7 @@ fn feed(alloc: Global, items: &[Value]) -> Result<Entry, Refusal>
     Ok(Entry::Feed(end, Arc::new(alloc, input)?, answer))
 }
 
-#[tactic(auto, unfolding(crate::specs::Meant::spawn_meant))]
+#[tactic(auto, unfolding(crate::specs::Lines::spawn_meant))]
 fn spawn(alloc: Global, items: &[Value]) -> Result<Entry, Refusal>
     ensures { ParsesAs entry_view result (spawn_meant (map view items.now)) }
 {
@@ -187,7 +187,7 @@ fn spawn(alloc: Global, items: &[Value]) -> Result<Entry, Refusal>
     Ok(Entry::Spawn(spec, [input, output, error], number_answer(answer)?))
 }
 
-#[tactic(auto, unfolding(crate::specs::Meant::spec_meant))]
+#[tactic(auto, unfolding(crate::specs::Lines::spec_meant))]
 fn spec(
     alloc: Global,
     said: &Value,

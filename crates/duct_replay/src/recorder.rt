@@ -1,6 +1,6 @@
 //! A system that is recorded.
 ghost use Rattle.std.specs.Prelude.{◌≡◌, IfOk};
-ghost use Rattle.duct_replay.specs.RecordingView.{RecordingView};
+ghost use Rattle.duct_replay.specs.RecordingView.{NotesOnly, RecordingView};
 
 use crate::recorded::{
     Ending, Notes, Output, RecordedChild, RecordedDrain, RecordedReader, add_note, note_of,
@@ -206,8 +206,6 @@ impl<S: System> System for Recorder<S> {
 /// Each exit status in a recording was returned by a poll of this child, and the bytes of an end by
 /// a poll of its worker, or they were all that its reader had.
 impl<S: System> Records for Recorder<S> {
-    ghost use Rattle.duct_replay.specs.Noted.{NotesOnly};
-
     ghost may_record = { λ _ recording. NotesOnly S.Child.may_answer S.may_read S.Reader.remaining
         S.Drain.may_say recording };
 

@@ -1,10 +1,7 @@
 //! What a replay answers from.
-ghost use Rattle.std.specs.Prelude.{◌≡◌, [], ◌∷◌, ◌++◌, map, IfOk, IfErr, OnOk, OnErr};
-ghost use Rattle.std.specs.Option.{option_copied, option_map};
+ghost use Rattle.std.specs.Prelude.{◌≡◌, [], ◌∷◌, ◌++◌, map, IfOk, IfErr, OnOk, OnErr, option_copied, option_map};
 ghost use Rattle.duct_system.specs.EntryView.{entry_view};
-ghost use Rattle.duct_replay.specs.Answers.{no_memory};
-ghost use Rattle.duct_replay.specs.RecordingView.{listed, status_of, output_of};
-ghost use Rattle.duct_replay.specs.Ended.{bytes_of};
+ghost use Rattle.duct_replay.specs.RecordingView.{RecordingView, bytes_of, listed, no_memory, output_of, status_of};
 
 use crate::found::no_memory;
 use duct_system::system::{Entry, ExitStatus, Fault};
@@ -22,10 +19,6 @@ pub struct Recording {
 }
 
 impl Model for Recording {
-    ghost use Rattle.std.specs.Prelude.{map};
-    ghost use Rattle.duct_system.specs.EntryView.{entry_view};
-    ghost use Rattle.duct_replay.specs.RecordingView.{RecordingView};
-
     ghost Value = { RecordingView };
 
     ghost view = { λ r. record {
@@ -128,10 +121,7 @@ impl Recording {
         ensures err { IfErr result (λ fault. fault ≡ no_memory) }
     {
         match listed(self.outputs.as_slice(), number) {
-            Some(bytes) => match Arc::try_clone(bytes) {
-                Ok(shared) => Ok(Some(shared)),
-                Err(_) => Err(no_memory()),
-            },
+            Some(bytes) => Ok(Some(Arc::try_clone(bytes).map_err(|_| no_memory())?)),
             None => Ok(None),
         }
     }

@@ -1,12 +1,15 @@
 //! A system that answers from a recording.
-ghost use Rattle.std.specs.Prelude.{◌≡◌, ◌≤◌, ◌<◌, ◌+◌, ◌-◌, [], map, min, length, string_bytes, IfOk, IfErr, OnOk, OnErr};
-ghost use Rattle.std.specs.Option.{option_map};
-ghost use Rattle.duct_system.specs.EntryView.{entry_view};
-ghost use Rattle.duct_system.specs.Journal.{IsNew};
-ghost use Rattle.duct_system.specs.Streams.{stream_of, end_of, ends_of};
-ghost use Rattle.duct_system.specs.declared.system.Kind.TheVariants.{OutOfMemory};
-ghost use Rattle.duct_replay.specs.Answers.{FitsNumber, IsNext, IsToldRight, next_view, no_memory};
-ghost use Rattle.duct_replay.specs.Replays.{Retraces, difference_after, next_of, noted};
+ghost use Rattle.std.specs.Prelude.{◌≡◌, ◌≤◌, ◌<◌, ◌+◌, ◌-◌, [], map, min, length, string_bytes, Some, Ok, Err, IfOk, IfErr, OnOk, OnErr, option_map};
+ghost use Rattle.std.proofs.Common.{lit<};
+ghost use Rattle.std.specs.Arc.{arc_value};
+ghost use Rattle.duct_system.specs.Child.{IsUnasked};
+ghost use Rattle.duct_system.specs.EntryView.{entry_view, answer_of, Environment, Pipe, OpenRead, Create, Duplicate, Parent, Canonicalize, Spawn, Feed, Drain, Reader, Close};
+ghost use Rattle.duct_system.specs.Job.{unpolled_job};
+ghost use Rattle.duct_system.specs.Journal.{Asks, GetsEnd, GetsEnds, GivesEnds, IsCleared, IsNew, IsRefused};
+ghost use Rattle.duct_system.specs.SpecView.{pair_text};
+ghost use Rattle.duct_system.specs.Streams.{stream_of, ends_of};
+ghost use Rattle.duct_replay.specs.RecordingView.{bytes_of, no_memory, output_of, status_of};
+ghost use Rattle.duct_replay.specs.Replays.{Fits, FitsChild, FitsNumber, FitsPipe, HasFound, IsNext, IsToldRight, IsUnread, MayReplay, ReplayView, Replays, Retraces, Steps, child_view, difference_after, drain_view, feed_view, next_of, next_view, noted};
 
 use crate::found::{
     environment_copy, found_canonicalize, found_create, found_drain, found_duplicate,
@@ -53,8 +56,6 @@ pub struct Replay {
 }
 
 impl Model for Replay {
-    ghost use Rattle.duct_replay.specs.Replays.{ReplayView};
-
     ghost Value = { ReplayView };
 
     ghost view = { λ r. record {
@@ -185,21 +186,6 @@ fn count_to(journal: &mut Journal, number: u64)
 }
 
 impl System for Replay {
-    ghost use Rattle.std.specs.Prelude.{◌≡◌, ◌≤◌, ◌<◌, Some, Ok, Err, length, map, min};
-    ghost use Rattle.std.specs.Arc.{arc_value};
-    ghost use Rattle.duct_system.specs.Child.{IsUnasked};
-    ghost use Rattle.duct_system.specs.EntryView.{answer_of, Environment, Pipe, OpenRead, Create, Duplicate, Parent, Canonicalize, Spawn, Feed, Drain, Reader, Close};
-    ghost use Rattle.duct_system.specs.Job.{unpolled_job};
-    ghost use Rattle.duct_system.specs.Journal.{Asks, GetsEnd, GetsEnds, GivesEnds, IsCleared, IsNew, IsRefused};
-    ghost use Rattle.duct_system.specs.SpecView.{pair_text};
-    ghost use Rattle.duct_system.specs.Streams.{stream_of, ends_of};
-    ghost use Rattle.std.proofs.Common.{lit<};
-    ghost use Rattle.duct_replay.specs.Answers.{Fits, FitsNumber, FitsPipe, FitsChild};
-    ghost use Rattle.duct_replay.specs.Views.{HasFound, IsUnread, child_view, feed_view, drain_view};
-    ghost use Rattle.duct_replay.specs.RecordingView.{status_of, output_of};
-    ghost use Rattle.duct_replay.specs.Replays.{Replays, MayReplay, Steps};
-    ghost use Rattle.duct_replay.specs.Ended.{bytes_of};
-
     type End = ReplayEnd;
 
     type Child = ReplayChild;

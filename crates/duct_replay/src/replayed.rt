@@ -1,12 +1,14 @@
 //! The children, workers and readers of a replay.
-ghost use Rattle.std.specs.Prelude.{◌≡◌, Some, ◌≤◌, ◌++◌, [], min, take, drop, length};
-ghost use Rattle.std.specs.Option.{ForSome, option_map};
-ghost use Rattle.duct_system.specs.Child.{IsUnasked, OrdersChild};
-ghost use Rattle.duct_replay.specs.Ended.{IsObeyed, told_of, SaysBytes, bytes_of, had};
-ghost use Rattle.duct_system.specs.Job.{unpolled_job};
+ghost use Rattle.std.specs.Prelude.{◌≡◌, Some, ◌≤◌, ◌++◌, min, take, drop, length, option_map};
+ghost use Rattle.std.specs.Io.{ReadsAtMost};
+ghost use Rattle.std.specs.Io.KnownBytes.{ReadConsumes};
+ghost use Rattle.std.specs.Option.{ForSome};
+ghost use Rattle.duct_system.specs.Child.{IsUnasked, OrdersChild, PollsChild};
+ghost use Rattle.duct_replay.specs.RecordingView.{HasRead, IsEnded, IsObeyed, MayRead, SameBytes, SaysBytes, bytes_of, had, told_of};
+ghost use Rattle.duct_system.specs.Job.{PollsJob, unpolled_job};
 
-use crate::found::unrecorded;
-use duct_system::system::{Child, ExitStatus, Fault, Job, Kind, Numbered, Order, Said};
+use crate::found::{no_memory, unrecorded};
+use duct_system::system::{Child, ExitStatus, Fault, Job, Numbered, Order, Said};
 use std::alloc::Global;
 use std::io;
 use std::io::{ErrorKind, Read};
@@ -27,7 +29,7 @@ pub struct ReplayChild {
 }
 
 impl ReplayChild {
-    ghost use Rattle.duct_replay.specs.Views.{child_view};
+    ghost use Rattle.duct_replay.specs.Replays.{child_view};
 
     /// Returns the child with this number, which ended with this status if it is recorded, before
     /// any poll or order.
@@ -58,20 +60,7 @@ impl ReplayChild {
         ensures { OrdersChild (λ _ _. IsObeyed) order (child_view self.old) result
             (child_view self.new) }
     {
-        match self.orders.push((order, Ok(()))) {
-            Ok(()) => Ok(()),
-            Err(_) => Err(Fault::new(Kind::OutOfMemory)),
-        }
-    }
-}
-
-// Returns what a poll of a child returns that ended with this status, if it is recorded.
-fn told(status: Option<ExitStatus>) -> Result<Option<ExitStatus>, Fault>
-    ensures { result ≡ told_of status }
-{
-    match status {
-        Some(status) => Ok(Some(status)),
-        None => Err(unrecorded()),
+        self.orders.push((order, Ok(()))).map_err(|_| no_memory())
     }
 }
 
@@ -84,11 +73,9 @@ impl Numbered for ReplayChild {
 }
 
 impl Child for ReplayChild {
-    ghost use Rattle.std.specs.Prelude.{◌≡◌};
-    ghost use Rattle.std.proofs.Common.{refl};
-    ghost use Rattle.duct_system.specs.Child.{PollsChild};
-    ghost use Rattle.duct_replay.specs.Ended.{IsEnded, IsObeyed, told_of};
-    ghost use Rattle.duct_replay.specs.Views.{child_view};
+    ghost use Rattle.std.specs.Prelude.{refl};
+    ghost use Rattle.duct_replay.specs.RecordingView.{IsEnded, IsObeyed};
+    ghost use Rattle.duct_replay.specs.Replays.{child_view};
 
     ghost may_answer = { IsEnded };
 
@@ -103,7 +90,10 @@ impl Child for ReplayChild {
     {
         self.polls = self.polls.saturating_add(1);
         self.ending = self.status;
-        let answer = told(self.status);
+        let answer = match self.status {
+            Some(status) => Ok(Some(status)),
+            None => Err(unrecorded()),
+        };
         self.last = Some(answer);
         answer
     }
@@ -132,7 +122,7 @@ pub struct ReplayFeed {
 }
 
 impl ReplayFeed {
-    ghost use Rattle.duct_replay.specs.Views.{feed_view};
+    ghost use Rattle.duct_replay.specs.Replays.{feed_view};
 
     /// Returns the worker of the end with this number, before any poll.
     pub fn new(number: u64) -> ReplayFeed
@@ -155,10 +145,9 @@ impl Numbered for ReplayFeed {
 }
 
 impl Job for ReplayFeed {
-    ghost use Rattle.std.specs.Prelude.{◌≡◌};
-    ghost use Rattle.std.proofs.Common.{refl};
+    ghost use Rattle.std.specs.Prelude.{◌≡◌, refl};
     ghost use Rattle.duct_system.specs.declared.system.Said.TheVariants as said;
-    ghost use Rattle.duct_replay.specs.Views.{feed_view};
+    ghost use Rattle.duct_replay.specs.Replays.{feed_view};
 
     type Result = ();
 
@@ -192,7 +181,7 @@ pub struct ReplayDrain {
 }
 
 impl ReplayDrain {
-    ghost use Rattle.duct_replay.specs.Views.{drain_view};
+    ghost use Rattle.duct_replay.specs.Replays.{drain_view};
 
     /// Returns the worker of the end with this number, before any poll. It has read these bytes, if
     /// they are recorded.
@@ -219,12 +208,9 @@ impl Numbered for ReplayDrain {
 }
 
 impl Job for ReplayDrain {
-    ghost use Rattle.std.specs.Prelude.{◌≡◌};
-    ghost use Rattle.std.proofs.Common.{refl};
-    ghost use Rattle.duct_system.specs.Job.{PollsJob};
-    ghost use Rattle.std.specs.Option.{option_map};
-    ghost use Rattle.duct_replay.specs.Ended.{MayRead, SameBytes, HasRead, bytes_of};
-    ghost use Rattle.duct_replay.specs.Views.{drain_view};
+    ghost use Rattle.std.specs.Prelude.{refl};
+    ghost use Rattle.duct_replay.specs.RecordingView.{MayRead, SameBytes};
+    ghost use Rattle.duct_replay.specs.Replays.{drain_view};
 
     type Result = Arc<Vec<u8>>;
 
@@ -297,17 +283,14 @@ fn give(bytes: &[u8], buf: &mut [u8]) -> usize
 }
 
 impl Read for ReplayReader {
-    ghost use Rattle.std.specs.Prelude.{◌≡◌, length};
-    ghost use Rattle.std.specs.Io.{ReadsAtMost};
-    ghost use Rattle.std.specs.Io.KnownBytes.{ReadConsumes};
-    ghost use Rattle.duct_replay.specs.Views.{ReadsLeft, left_of};
+    ghost use Rattle.duct_replay.specs.Replays.{ReadsOf, left_of};
 
     ghost remaining = { left_of };
 
     fn read(&mut self, buf: &mut [u8]) -> io::Result<usize>
         ensures bound { ReadsAtMost result buf.new }
         ensures bytes { ReadConsumes (left_of self.old) (left_of self.new) result buf.new }
-        ensures told { ReadsLeft self.old (length buf.new) result }
+        ensures told { ReadsOf self.old.bytes self.old.given (length buf.new) result }
         ensures same { self.new.bytes ≡ self.old.bytes }
     {
         let bytes = match &self.bytes {

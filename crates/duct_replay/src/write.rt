@@ -1,11 +1,8 @@
 //! The lines of a recording: of an entry, of how a child ended, and of what was read of an end.
-ghost use Rattle.std.specs.Prelude.{◌≡◌, ◌++◌, ◌∷◌, [], Some, Ok, flat_map, length, map, string_bytes, IfOk, OnOk};
-ghost use Rattle.std.specs.Option.{option_copied};
+ghost use Rattle.std.specs.Prelude.{◌≡◌, ◌++◌, ◌∷◌, [], Some, Ok, flat_map, length, map, string_bytes, IfOk, OnOk, option_copied};
 ghost use Rattle.duct_system.specs.EntryView.{entry_view};
 ghost use Rattle.duct_system.specs.SpecView.{AreOrdered, pair_text};
-ghost use Rattle.duct_replay.specs.EntryData.{AreBytes, Ended, IsWritable, ItemView, Noted, Read, answer_data, bytes_data, entry_data, feed_data, folder_data, item_data, item_text, kind_name, list_data, number_data, port_data, ports_data, refused_data, request_data, side_name, spawn_data, stream_data, variable_data, variables_data};
-ghost use Rattle.duct_replay.specs.JournalMeant.{AllRead, ReadsFirst, output_view};
-ghost use Rattle.duct_replay.specs.Meant.{line_meant};
+ghost use Rattle.duct_replay.specs.Lines.{AreBytes, Ended, IsWritable, ItemView, Noted, Read, answer_data, bytes_data, entry_data, folder_data, item_data, item_text, kind_name, list_data, number_data, port_data, ports_data, refused_data, request_data, side_name, spawn_data, stream_data, variable_data, variables_data, AllRead, ReadsFirst, output_view, line_meant};
 ghost use Rattle.duct_replay.specs.declared.write.Variables.{Variables};
 ghost use Rattle.serde_json.specs.Data.{string};
 ghost use Rattle.serde_json.specs.Read.{read};
@@ -75,7 +72,7 @@ pub(crate) fn push_lines<T: Written>(
     Ok(())
 }
 
-#[tactic(auto, unfolding(crate::specs::EntryData::item_text))]
+#[tactic(auto, unfolding(crate::specs::Lines::item_text))]
 fn line<T: Written>(alloc: Global, item: &T, variables: Variables) -> Result<String, AllocError>
     ensures text { IfOk result
         (λ line. string_bytes line ≡ item_text variables (T.item item.now)) }
@@ -91,7 +88,7 @@ fn line<T: Written>(alloc: Global, item: &T, variables: Variables) -> Result<Str
 impl Written for Entry {
     ghost item = { λ entry. Noted (entry_view entry) };
 
-    #[tactic(auto, unfolding(crate::specs::EntryData::item_data, crate::specs::EntryData::entry_data))]
+    #[tactic(auto, unfolding(crate::specs::Lines::item_data, crate::specs::Lines::entry_data))]
     fn value(&self, alloc: Global, variables: Variables) -> Result<Value, AllocError> {
         let mut items = request(alloc, self, variables)?;
         let mut more = answer(alloc, self, variables)?;
@@ -104,7 +101,7 @@ impl Written for Entry {
 impl Written for (u64, ExitStatus) {
     ghost item = { Ended };
 
-    #[tactic(auto, unfolding(crate::specs::EntryData::item_data))]
+    #[tactic(auto, unfolding(crate::specs::Lines::item_data))]
     fn value(&self, alloc: Global, _variables: Variables) -> Result<Value, AllocError> {
         let (child, status) = self;
         let name = text(alloc, "ended")?;
@@ -122,7 +119,7 @@ impl Written for (u64, ExitStatus) {
 impl Written for (u64, Arc<Vec<u8>>) {
     ghost item = { λ output. Read (output_view output) };
 
-    #[tactic(auto, unfolding(crate::specs::EntryData::item_data))]
+    #[tactic(auto, unfolding(crate::specs::Lines::item_data))]
     fn value(&self, alloc: Global, _variables: Variables) -> Result<Value, AllocError> {
         let (end, bytes) = self;
         let name = text(alloc, "read")?;
@@ -134,7 +131,7 @@ impl Written for (u64, Arc<Vec<u8>>) {
 // ---- requests
 
 // A request: its name, and what it was made with.
-#[tactic(auto, unfolding(crate::specs::EntryData::request_data))]
+#[tactic(auto, unfolding(crate::specs::Lines::request_data))]
 fn request(alloc: Global, entry: &Entry, variables: Variables) -> Result<Vec<Value>, AllocError>
     ensures items { IfOk result
         (λ items. map view items.items ≡ request_data variables (entry_view entry.now)) }
@@ -184,7 +181,7 @@ fn spawn(
 }
 
 // Bytes, as text or as numbers.
-#[tactic(auto, unfolding(crate::specs::EntryData::bytes_data))]
+#[tactic(auto, unfolding(crate::specs::Lines::bytes_data))]
 fn input(alloc: Global, bytes: &[u8]) -> Result<Value, AllocError>
     ensures value { IfOk result (λ value. view value ≡ bytes_data bytes.now) }
     ensures bytes { AreBytes bytes.now }
@@ -225,7 +222,7 @@ fn folder(alloc: Global, folder: Option<&str>) -> Result<Value, AllocError>
     }
 }
 
-#[tactic(auto, unfolding(crate::specs::EntryData::variables_data))]
+#[tactic(auto, unfolding(crate::specs::Lines::variables_data))]
 fn listed(alloc: Global, pairs: &[(&str, &str)], variables: Variables) -> Result<Value, AllocError>
     ensures { IfOk result (λ value. view value
         ≡ variables_data variables (map (λ p. (p.0.now, p.1.now)) pairs.now)) }
@@ -237,7 +234,7 @@ fn listed(alloc: Global, pairs: &[(&str, &str)], variables: Variables) -> Result
     Ok(Value::Array(values))
 }
 
-#[tactic(auto, unfolding(crate::specs::EntryData::variables_data))]
+#[tactic(auto, unfolding(crate::specs::Lines::variables_data))]
 fn environment(
     alloc: Global,
     pairs: &[(String, String)],
@@ -253,7 +250,7 @@ fn environment(
     Ok(Value::Array(values))
 }
 
-#[tactic(auto, unfolding(crate::specs::EntryData::variable_data))]
+#[tactic(auto, unfolding(crate::specs::Lines::variable_data))]
 fn variable(
     alloc: Global,
     name: &str,
@@ -322,7 +319,7 @@ fn side_name(side: Side) -> &'static str
 
 // ---- answers
 
-#[tactic(auto, unfolding(crate::specs::EntryData::answer_data))]
+#[tactic(auto, unfolding(crate::specs::Lines::answer_data))]
 fn answer(alloc: Global, entry: &Entry, variables: Variables) -> Result<Vec<Value>, AllocError>
     ensures { IfOk result
         (λ items. map view items.items ≡ answer_data variables (entry_view entry.now)) }

@@ -3,7 +3,7 @@
 ghost use Rattle.std.specs.Prelude.{◌≡◌, ◌⊎◌, ◌≤◌, map, string_bytes, IfOk};
 ghost use Rattle.std.specs.Io.KnownBytes.{Appends};
 ghost use Rattle.duct_program.specs.Answered.{WritesText, WritesUsage};
-ghost use Rattle.duct_replay.specs.JournalMeant.{recorded_text, recorded_view};
+ghost use Rattle.duct_replay.specs.Lines.{recorded_text, recorded_view};
 ghost use Rattle.duct_replay.specs.RecordingView.{RecordingView};
 
 use duct::Hook;

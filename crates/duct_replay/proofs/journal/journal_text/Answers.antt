@@ -1,9 +1,7 @@
 -- The text of all means all.
-use Rattle.std.proofs.Common.{map, ◌++◌, ap, subst, ◌∙◌}
-use Rattle.std.specs.Prelude.{flat_map}
+use Rattle.std.proofs.Common.{map, ◌++◌, ap, subst, ◌∙◌, flat_map}
 use Rattle.duct_system.specs.EntryView.{entry_view}
-use Rattle.duct_replay.specs.EntryData.{Noted, item_text}
-use Rattle.duct_replay.specs.JournalMeant.{AllRead}
+use Rattle.duct_replay.specs.Lines.{Noted, item_text, AllRead}
 use Rattle.duct_replay.proofs.JournalLines.{journal_back, map_map}
 use Rattle.duct_replay.proofs.journal.journal_text.Goals as goal
 

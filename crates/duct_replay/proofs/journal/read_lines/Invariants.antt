@@ -1,6 +1,6 @@
 -- What was read so far, followed by what is read of the rest, is what is read of all.
 use Rattle.std.proofs.Common.{◌≡◌, ◌≤◌, ◌+◌, ◌-◌, map, string_bytes, length}
-use Rattle.duct_replay.specs.JournalMeant.{lines_meant, recorded_view}
+use Rattle.duct_replay.specs.Lines.{lines_meant, recorded_view}
 use Rattle.duct_replay.proofs.JournalReading.{in_front}
 use Rattle.duct_replay.proofs.journal.read_lines.Given as goal
 

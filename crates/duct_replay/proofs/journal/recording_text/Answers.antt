@@ -1,9 +1,7 @@
 -- The text of all means all.
-use Rattle.std.proofs.Common.{◌≡◌, List, map, ap, ◌∙◌}
+use Rattle.std.proofs.Common.{map, ap, ◌∙◌}
 use Rattle.duct_system.specs.EntryView.{entry_view}
-use Rattle.duct_system.specs.declared.system.ExitStatus.{ExitStatus}
-use Rattle.duct_replay.specs.EntryData.{Ended, Noted, Read}
-use Rattle.duct_replay.specs.JournalMeant.{output_view, recorded_view}
+use Rattle.duct_replay.specs.Lines.{Ended, Noted, Read, output_view, recorded_view}
 use Rattle.duct_replay.proofs.JournalLines.{all_read, all_written, map_map, recording_back}
 use Rattle.duct_replay.proofs.journal.recording_text.Goals as goal
 

@@ -2,7 +2,7 @@
 use Rattle.std.proofs.Common.{◌≡◌, map, length}
 use Rattle.serde_json.specs.View.{view}
 use Rattle.duct_system.specs.SpecView.{pair_text}
-use Rattle.duct_replay.specs.Meant.{all_meant, variable_meant}
+use Rattle.duct_replay.specs.Lines.{all_meant, variable_meant}
 use Rattle.duct_replay.proofs.Reading.{behind}
 use Rattle.duct_replay.proofs.parts.variables.Given as goal
 

@@ -1,7 +1,7 @@
 -- What was read so far, followed by what is read of the rest, is what is read of all.
 use Rattle.std.proofs.Common.{◌≡◌, map, string_bytes, length}
 use Rattle.serde_json.specs.View.{view}
-use Rattle.duct_replay.specs.Meant.{all_meant, text_meant}
+use Rattle.duct_replay.specs.Lines.{all_meant, text_meant}
 use Rattle.duct_replay.proofs.Reading.{behind}
 use Rattle.duct_replay.proofs.parts.words.Given as goal
 

@@ -1,7 +1,7 @@
 -- Setting what is left sets all.
 use Rattle.std.proofs.Common.{◌≡◌, map, length}
 use Rattle.duct_system.specs.SpecView.{pair_text}
-use Rattle.duct_replay.specs.Meant.{set_in_turn}
+use Rattle.duct_replay.specs.Lines.{set_in_turn}
 use Rattle.duct_replay.proofs.read.set_variables.Given as goal
 
 abbrev pub invariant-loop-pair : goal.invariant-loop-pair

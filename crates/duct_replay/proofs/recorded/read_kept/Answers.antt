@@ -1,6 +1,6 @@
 -- What is kept after each result of a read.
 use Rattle.std.proofs.Common.{List, ℕ, rules}
-use Rattle.duct_replay.specs.Noted.{HasGiven}
+use Rattle.duct_replay.specs.RecordingView.{HasGiven}
 use Rattle.duct_replay.proofs.Noting.{at_end, given_all, given_more, given_same, keeps_more}
 use Rattle.duct_replay.proofs.recorded.read_kept.Goals as goal
 

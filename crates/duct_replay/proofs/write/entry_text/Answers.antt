@@ -3,8 +3,7 @@ use Rattle.std.proofs.Common.{ap, string_bytes}
 use Rattle.std.proofs.lemmas.Result.{IfOk-weaker}
 use Rattle.serde_json.specs.View.{view}
 use Rattle.duct_system.specs.EntryView.{entry_view}
-use Rattle.duct_replay.specs.EntryData.{Noted, item_data}
-use Rattle.duct_replay.specs.Meant.{◌>>=◌, line_meant, only_entry}
+use Rattle.duct_replay.specs.Lines.{Noted, item_data, ◌>>=◌, line_meant, only_entry}
 use Rattle.duct_replay.proofs.Line.{read_again, meant_again, text_again}
 use Rattle.duct_replay.proofs.write.entry_text.Goals as goal
 

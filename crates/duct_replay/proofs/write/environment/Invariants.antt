@@ -2,7 +2,7 @@
 use Rattle.std.proofs.Common.{◌≡◌, map, take}
 use Rattle.serde_json.specs.View.{view}
 use Rattle.duct_system.specs.SpecView.{pair_text}
-use Rattle.duct_replay.specs.EntryData.{variable_data}
+use Rattle.duct_replay.specs.Lines.{variable_data}
 use Rattle.duct_replay.proofs.write.environment.Given as goal
 
 abbrev pub invariant-loop-pair : goal.invariant-loop-pair

@@ -1,7 +1,7 @@
 -- The line of an item is read back.
 use Rattle.std.proofs.Common.{◌≡◌, ℕ, List, [], ◌∷◌, ◌++◌, Some, ap, subst, ◌∙◌}
 use Rattle.serde_json.specs.Read.{read}
-use Rattle.duct_replay.specs.EntryData.{item_data, item_text}
+use Rattle.duct_replay.specs.Lines.{item_data, item_text}
 use Rattle.duct_replay.proofs.JournalLines.{item_reads}
 use Rattle.duct_replay.proofs.Line.{read_again, text_again}
 use Rattle.duct_replay.proofs.write.line.Goals as goal

@@ -1,7 +1,7 @@
 -- What was written so far.
 use Rattle.std.proofs.Common.{◌≡◌, map, take}
 use Rattle.serde_json.specs.View.{view}
-use Rattle.duct_replay.specs.EntryData.{variable_data}
+use Rattle.duct_replay.specs.Lines.{variable_data}
 use Rattle.duct_replay.proofs.write.listed.Given as goal
 
 abbrev pub invariant-loop-pair : goal.invariant-loop-pair

@@ -1,8 +1,6 @@
 -- The text so far, followed by the lines of the rest, is the text of all.
-use Rattle.std.proofs.Common.{◌≡◌, ◌++◌, map, string_bytes, length}
-use Rattle.std.specs.Prelude.{flat_map}
-use Rattle.duct_replay.specs.EntryData.{item_text}
-use Rattle.duct_replay.specs.JournalMeant.{AllRead}
+use Rattle.std.proofs.Common.{◌≡◌, ◌++◌, map, string_bytes, length, flat_map}
+use Rattle.duct_replay.specs.Lines.{item_text, AllRead}
 use Rattle.duct_replay.specs.declared.write.Variables.TheVariants.{Shown}
 use Rattle.duct_replay.proofs.write.push_lines.Given as goal
 

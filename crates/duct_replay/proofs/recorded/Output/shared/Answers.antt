@@ -1,6 +1,4 @@
-use Rattle.std.proofs.Common.{ℕ, ap}
-use Rattle.std.specs.declared.alloc.Global.{Global}
-use Rattle.std.specs.declared.vec.Vec.{Vec}
+use Rattle.std.proofs.Common.{ℕ, ap, Global, Vec}
 use Rattle.duct_replay.proofs.Noting.{given_again}
 use Rattle.duct_replay.proofs.recorded.Output.shared.Goals as goal
 

@@ -1,8 +1,6 @@
-use Rattle.std.proofs.Common.{ℕ, ap, sym, ◌∙◌}
-use Rattle.std.specs.declared.alloc.Global.{Global}
-use Rattle.std.specs.declared.vec.Vec.{Vec}
+use Rattle.std.proofs.Common.{ℕ, ap, sym, ◌∙◌, Global, Vec}
 use Rattle.duct_system.specs.Job.{JobView}
-use Rattle.duct_replay.specs.Ended.{Shared}
+use Rattle.duct_replay.specs.RecordingView.{Shared}
 use Rattle.duct_replay.proofs.Noting.{by_worker}
 use Rattle.duct_replay.proofs.recorded.RecordedDrainJob.poll.Goals as goal
 

@@ -1,8 +1,6 @@
 -- Each ending and each output that was added so far may have been noted.
-use Rattle.std.proofs.Common.{◌≡◌}
-use Rattle.std.specs.List.{All}
-use Rattle.duct_replay.specs.Ended.{bytes_of}
-use Rattle.duct_replay.specs.Noted.{MayEnd, MayGive}
+use Rattle.std.proofs.Common.{◌≡◌, All}
+use Rattle.duct_replay.specs.RecordingView.{bytes_of, MayEnd, MayGive}
 use Rattle.duct_replay.proofs.recorder.RecorderRecords.recording.Given as goal
 
 abbrev pub invariant-loop-note : goal.invariant-loop-note

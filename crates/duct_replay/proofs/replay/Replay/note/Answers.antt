@@ -1,8 +1,7 @@
 use Rattle.std.proofs.Common.{ℕ, ap, sym, subst, ◌∙◌}
 use Rattle.duct_system.specs.EntryView.{entry_view}
 use Rattle.duct_system.specs.Journal.{JournalView}
-use Rattle.duct_replay.specs.Answers.{IsToldRight}
-use Rattle.duct_replay.specs.Replays.{ReplayView, difference_after, next_of}
+use Rattle.duct_replay.specs.Replays.{IsToldRight, ReplayView, difference_after, next_of}
 use Rattle.duct_replay.proofs.Following.{one_followed}
 use Rattle.duct_replay.proofs.replay.Replay.note.Goals as goal
 

@@ -1,12 +1,12 @@
--- What a line means: the item that was written as this JSON, or why it is none. Nothing is ignored:
--- an item too many, another type or another name is refused.
-use Rattle.std.specs.Prelude.{◌≡◌, ℕ, ℤ, pos, negsuc, int_lt, List, [], ◌∷◌, Some, None, Ok, Err, if◌then◌else◌, codes, nat_lt}
-use Rattle.std.specs.Option.{option_map, option_and_then}
-use Rattle.std.specs.Str.{bytes_eq}
-use Rattle.std.specs.declared.option.Option.{Option}
-use Rattle.std.specs.declared.result.Result.{Result}
+-- What an item of a recording is written as, on a line of its own, and what such a line means. An
+-- entry is an array of the request's name, what it was made with, and its answer; how a child ended
+-- and what was read of an end are arrays of a name, a number, and the exit status or the bytes. A
+-- line means the item that was written as its JSON, or there is a reason why it means none. Nothing
+-- is ignored: an item too many, another type or another name is refused.
+use Rattle.std.specs.Prelude.{◌≡◌, ◌<◌, ℕ, ℤ, pos, negsuc, int_lt, false, List, [], ◌∷◌, ◌++◌, map, length, slice_index, codes, Some, None, Ok, Err, if◌then◌else◌, ⊤, Option, Result, nat_lt, option_map, option_and_then, ok_or, bytes_eq, ◌≢◌, ◌+◌, flat_map}
+use Rattle.std.specs.Str.{is_utf8}
 use Rattle.duct_system.specs.EntryView.{EntryView, Environment, Pipe, OpenRead, Create, Duplicate, Parent, Canonicalize, Spawn, Feed, Drain, Reader, Close, entry_view}
-use Rattle.duct_system.specs.SpecView.{SpecView, Vars, with_var}
+use Rattle.duct_system.specs.SpecView.{SpecView, Vars, AreOrdered, with_var}
 use Rattle.duct_system.specs.declared.spec.Port.{Port}
 use Rattle.duct_system.specs.declared.spec.Port.TheVariants as ports
 use Rattle.duct_system.specs.declared.system.ExitStatus.{ExitStatus}
@@ -18,28 +18,192 @@ use Rattle.duct_system.specs.declared.system.Side.{Side}
 use Rattle.duct_system.specs.declared.system.Side.TheVariants as sides
 use Rattle.duct_system.specs.declared.system.Stdio.{Stdio}
 use Rattle.duct_system.specs.declared.system.Stdio.TheVariants.{Inherit, Null, End}
-use Rattle.duct_replay.specs.EntryData.{ItemView, Noted, Ended, Read, kind_name, side_name}
-use Rattle.duct_replay.specs.Ended.{bytes_of}
+use Rattle.duct_replay.specs.declared.write.Variables.{Variables}
+use Rattle.duct_replay.specs.declared.write.Variables.TheVariants as variables
+use Rattle.serde_json.specs.Data.{Data, null, number, string, array, unsigned, Items, no_items, item as first_item}
+use Rattle.serde_json.specs.Find.{of_integer, as_str, as_number, as_i64, as_u64, as_array}
+use Rattle.serde_json.specs.View.{items_of}
+use Rattle.serde_json.specs.Written.{compact_text}
 use Rattle.duct_replay.specs.declared.error.Refusal.{Refusal}
 use Rattle.duct_replay.specs.declared.error.Refusal.TheVariants.{NotEntry, NotJson, Hidden, Memory}
 use Rattle.duct_replay.specs.declared.read.Item.{Item}
 use Rattle.duct_replay.specs.declared.read.Item.TheVariants as items
-use Rattle.serde_json.specs.Data.{Data, null, number, string, Items, no_items, item}
 use Rattle.serde_json.specs.Read.{read}
-use Rattle.serde_json.specs.Find.{as_str, as_number, as_i64, as_u64, as_array}
+use Rattle.std.specs.List.{AllByRecursion}
+use Rattle.std.specs.Str.Lines.{lines}
+use Rattle.duct_replay.specs.RecordingView.{RecordingView, Shared, bytes_of}
+use Rattle.duct_replay.specs.declared.error.LineRefusal.{LineRefusal}
 
--- ---- steps
+-- a number
+abbrev pub number_data : ℕ → Data
+number_data n = number (unsigned n)
+
+-- an array of these
+abbrev pub list_data : List Data → Data
+list_data items = array (items_of items)
+
+-- the name of a kind of fault
+abbrev pub kind_name : Kind → List ℕ
+kind_name NotFound = codes "NotFound"
+kind_name PermissionDenied = codes "PermissionDenied"
+kind_name BrokenPipe = codes "BrokenPipe"
+kind_name WriteZero = codes "WriteZero"
+kind_name InvalidInput = codes "InvalidInput"
+kind_name Unsupported = codes "Unsupported"
+kind_name OutOfMemory = codes "OutOfMemory"
+kind_name Other = codes "Other"
+
+-- the name of an output stream of the parent
+abbrev pub side_name : Side → List ℕ
+side_name sides.Out = codes "stdout"
+side_name sides.Err = codes "stderr"
+
+-- a port; the place of an end is a number
+abbrev pub port_data : Port → Data
+port_data ports.Inherit = string (codes "inherit")
+port_data ports.Null = string (codes "null")
+port_data ports.Given = string (codes "given")
+port_data (ports.Place place) = number_data place
+
+-- a stream; an end is its number
+abbrev pub stream_data : Stdio ℕ → Data
+stream_data Inherit = string (codes "inherit")
+stream_data Null = string (codes "null")
+stream_data (End end) = number_data end
+
+-- the value of a variable, or null where it is hidden
+abbrev pub value_data : Variables → List ℕ → Data
+value_data variables.Shown value = string value
+value_data variables.Hidden value = null
+
+-- a variable: its name and its value
+unfoldable pub variable_data : Variables → List ℕ × List ℕ → Data
+variable_data variables pair = list_data (string pair.0 ∷ value_data variables pair.1 ∷ [])
+
+unfoldable pub variables_data : Variables → Vars → Data
+variables_data variables vars = list_data (map (variable_data variables) vars)
+
+-- a folder, or null where there is none
+abbrev pub folder_data : Option (List ℕ) → Data
+folder_data (Some folder) = string folder
+folder_data None = null
+
+-- bytes: as text where they are UTF-8, and else as numbers
+unfoldable pub bytes_data : List ℕ → Data
+bytes_data bytes = if is_utf8 bytes then string bytes else list_data (map number_data bytes)
+
+-- the three ports of a spec
+abbrev pub ports_data : SpecView → Data
+ports_data spec = list_data (map port_data (spec.input ∷ spec.output ∷ spec.error ∷ []))
+
+-- the request of a child: its words, folder, variables and ports, and its streams
+abbrev pub spawn_data : Variables → SpecView → List (Stdio ℕ) → List Data
+spawn_data variables spec streams =
+    string (codes "spawn") ∷ list_data (map string spec.words) ∷ folder_data spec.folder
+    ∷ variables_data variables spec.vars ∷ ports_data spec ∷ list_data (map stream_data streams)
+    ∷ []
+
+-- a request: its name, and what it was made with
+unfoldable pub request_data : Variables → EntryView → List Data
+request_data variables (Environment answer) = string (codes "environment") ∷ []
+request_data variables (Pipe answer) = string (codes "pipe") ∷ []
+request_data variables (OpenRead path answer) = string (codes "open_read") ∷ string path ∷ []
+request_data variables (Create path answer) = string (codes "create") ∷ string path ∷ []
+request_data variables (Duplicate end answer) = string (codes "duplicate") ∷ number_data end ∷ []
+request_data variables (Parent side answer) =
+    string (codes "parent") ∷ string (side_name side) ∷ []
+request_data variables (Canonicalize path answer) =
+    string (codes "canonicalize") ∷ string path ∷ []
+request_data variables (Spawn spec streams answer) = spawn_data variables spec streams
+request_data variables (Feed end bytes answer) =
+    string (codes "feed") ∷ number_data end ∷ bytes_data bytes ∷ []
+request_data variables (Drain end answer) = string (codes "drain") ∷ number_data end ∷ []
+request_data variables (Reader end) = string (codes "reader") ∷ number_data end ∷ []
+request_data variables (Close end) = string (codes "close") ∷ number_data end ∷ []
+
+-- the answer of a request that was refused
+abbrev pub refused_data : Fault → List Data
+refused_data fault = string (codes "fault") ∷ string (kind_name fault.kind) ∷ []
+
+-- an answer: "ok" and what was returned, or "fault" and its kind
+abbrev pub result_data : {A : Type 0} → (A → List Data) → Result A Fault → List Data
+result_data values (Ok answer) = string (codes "ok") ∷ values answer
+result_data values (Err fault) = refused_data fault
+
+-- an answer that is a number
+abbrev pub number_answer_data : Result ℕ Fault → List Data
+number_answer_data = result_data (λ n. number_data n ∷ [])
+
+-- the answer to a request
+unfoldable pub answer_data : Variables → EntryView → List Data
+answer_data variables (Environment answer) =
+    result_data (λ vars. variables_data variables vars ∷ []) answer
+answer_data variables (Pipe answer) =
+    result_data (λ ends. number_data ends.0 ∷ number_data ends.1 ∷ []) answer
+answer_data variables (OpenRead path answer) = number_answer_data answer
+answer_data variables (Create path answer) = number_answer_data answer
+answer_data variables (Duplicate end answer) = number_answer_data answer
+answer_data variables (Parent side answer) = number_answer_data answer
+answer_data variables (Canonicalize path answer) = result_data (λ text. string text ∷ []) answer
+answer_data variables (Spawn spec streams answer) = number_answer_data answer
+answer_data variables (Feed end bytes answer) = result_data (λ unit. []) answer
+answer_data variables (Drain end answer) = result_data (λ unit. []) answer
+answer_data variables (Reader end) = []
+answer_data variables (Close end) = []
+
+-- an entry
+unfoldable pub entry_data : Variables → EntryView → Data
+entry_data variables entry = list_data (request_data variables entry ++ answer_data variables entry)
+
+-- ---- items
+
+-- an entry; the number of a child and how it ended; the number of an end and what was read of it
+pub data ItemView : Type 0 where
+  Noted : EntryView → ItemView
+  Ended : ℕ × ExitStatus → ItemView
+  Read : ℕ × List ℕ → ItemView
+
+-- an exit status: "code" or "signal", and the code or the signal
+abbrev pub status_data : ExitStatus → List Data
+status_data (Code code) = string (codes "code") ∷ number (of_integer code) ∷ []
+status_data (Signal signal) = string (codes "signal") ∷ number (of_integer signal) ∷ []
+
+unfoldable pub item_data : Variables → ItemView → Data
+item_data variables (Noted entry) = entry_data variables entry
+item_data variables (Ended (child, status)) =
+    list_data (string (codes "ended") ∷ number_data child ∷ status_data status)
+item_data variables (Read (end, bytes)) =
+    list_data (string (codes "read") ∷ number_data end ∷ bytes_data bytes ∷ [])
+
+-- the line of an item, with its newline
+unfoldable pub item_text : Variables → ItemView → List ℕ
+item_text variables item = compact_text (item_data variables item) ++ 10 ∷ []
+
+abbrev pub AreBytes : List ℕ → Type 0
+AreBytes bytes = (place : ℕ) → slice_index bytes place < 256
+
+-- an integer of 32 bits
+pub record IsSmall (n : ℤ) : Type 0 where
+  pub least : int_lt n (negsuc 2147483647) ≡ false
+  pub most : int_lt (pos 2147483647) n ≡ false
+
+-- what each item has, and so can be written: the variables of a spec are in order, a child has three
+-- streams, bytes are below 256, and an exit status has 32 bits
+abbrev pub IsWritable : ItemView → Type 0
+IsWritable (Noted (Spawn spec streams answer)) = AreOrdered spec.vars × (length streams ≡ 3)
+IsWritable (Noted (Feed end bytes answer)) = AreBytes bytes
+IsWritable (Noted _) = ⊤
+IsWritable (Ended (child, Code code)) = IsSmall code
+IsWritable (Ended (child, Signal signal)) = IsSmall signal
+IsWritable (Read output) = AreBytes output.1
+
+-- ---- meaning: steps
 
 infixl 10 ◌>>=◌
 -- a value goes on to the next step, and a refusal stays
 abbrev pub ◌>>=◌ : {A B : Type 0} → Result A Refusal → (A → Result B Refusal) → Result B Refusal
 (Ok value) >>= next = next value
 (Err refusal) >>= next = Err refusal
-
--- a value that has to be there
-abbrev pub needed : {A : Type 0} → Option A → Result A Refusal
-needed (Some value) = Ok value
-needed None = Err NotEntry
 
 -- the refusal is the one that is read, or an allocation failed
 abbrev pub RefusesAs : {B : Type 0} → Refusal → Result B Refusal → Type 0
@@ -51,26 +215,21 @@ abbrev pub ParsesAs : {A B : Type 0} → (A → B) → Result A Refusal → Resu
 ParsesAs view (Ok value) read = read ≡ Ok (view value)
 ParsesAs view (Err refusal) read = RefusesAs refusal read
 
--- an answer, with what was returned seen by a view
-abbrev pub returned_view : {A B F : Type 0} → (A → B) → Result A F → Result B F
-returned_view view (Ok value) = Ok (view value)
-returned_view view (Err fault) = Err fault
-
 -- ---- parts
 
 -- the items of an array
 abbrev pub list_of : Items → List Data
 list_of no_items = []
-list_of (item json items) = json ∷ list_of items
+list_of (first_item json items) = json ∷ list_of items
 
 unfoldable pub text_meant : Data → Result (List ℕ) Refusal
-text_meant json = needed (as_str json)
+text_meant json = ok_or (as_str json) NotEntry
 
 unfoldable pub number_meant : Data → Result ℕ Refusal
-number_meant json = needed (option_and_then as_u64 (as_number json))
+number_meant json = ok_or (option_and_then as_u64 (as_number json)) NotEntry
 
 unfoldable pub list_meant : Data → Result (List Data) Refusal
-list_meant json = needed (option_map list_of (as_array json))
+list_meant json = ok_or (option_map list_of (as_array json)) NotEntry
 
 -- each of these, in their order
 abbrev pub all_meant : {A : Type 0} → (Data → Result A Refusal) → List Data
@@ -196,7 +355,7 @@ words_meant json = list_meant json >>= all_meant text_meant
 
 -- a port: its name, or the place of an end
 unfoldable pub port_meant : Data → Result Port Refusal
-port_meant (number num) = needed (as_u64 num) >>= λ place. Ok (ports.Place place)
+port_meant (number num) = ok_or (as_u64 num) NotEntry >>= λ place. Ok (ports.Place place)
 port_meant (string name) =
     if bytes_eq name (codes "inherit") then Ok ports.Inherit
     else if bytes_eq name (codes "null") then Ok ports.Null
@@ -206,7 +365,7 @@ port_meant _ = Err NotEntry
 
 -- a stream: its name, or the number of its end
 unfoldable pub stream_meant : Data → Result (Stdio ℕ) Refusal
-stream_meant (number num) = needed (as_u64 num) >>= λ end. Ok (End end)
+stream_meant (number num) = ok_or (as_u64 num) NotEntry >>= λ end. Ok (End end)
 stream_meant (string name) =
     if bytes_eq name (codes "inherit") then Ok Inherit
     else if bytes_eq name (codes "null") then Ok Null
@@ -306,7 +465,7 @@ small n =
     else Ok n
 
 unfoldable pub integer_meant : Data → Result ℤ Refusal
-integer_meant json = needed (option_and_then as_i64 (as_number json)) >>= small
+integer_meant json = ok_or (option_and_then as_i64 (as_number json)) NotEntry >>= small
 
 -- the exit status with this name
 unfoldable pub status_named : List ℕ → ℤ → Result ExitStatus Refusal
@@ -342,14 +501,9 @@ item_meant json =
     list_meant json >>= first_meant >>= λ parts. text_meant parts.0
     >>= λ name. item_named name parts.1
 
--- what the JSON of a line means, where it is JSON
-abbrev pub json_item : Option Data → Result ItemView Refusal
-json_item (Some json) = item_meant json
-json_item None = Err NotJson
-
 -- what the text of a line means
 unfoldable pub item_line : List ℕ → Result ItemView Refusal
-item_line text = json_item (read text)
+item_line text = ok_or (read text) NotJson >>= item_meant
 
 -- the entry, where an item is one
 abbrev pub only_entry : ItemView → Result EntryView Refusal
@@ -365,3 +519,92 @@ abbrev pub item_view : Item → ItemView
 item_view (items.Entry entry) = Noted (entry_view entry)
 item_view (items.Ended child status) = Ended (child, status)
 item_view (items.Read end bytes) = Read (end, bytes_of bytes)
+
+-- the entries; how children ended, and what was read of ends, by their numbers
+pub record RecordedView : Type 0 where
+  pub entries : List EntryView
+  pub endings : List (ℕ × ExitStatus)
+  pub outputs : List (ℕ × List ℕ)
+
+-- what was read of an end, whoever owns it
+abbrev pub output_view : ℕ × Shared → ℕ × List ℕ
+output_view (end, shared) = (end, bytes_of shared)
+
+-- what a recording has, whoever owns its bytes
+abbrev pub recorded_view : RecordingView → RecordedView
+recorded_view recording = record {
+  entries = recording.entries;
+  endings = recording.endings;
+  outputs = map output_view recording.outputs;
+}
+
+-- its items: the entries, how children ended, and what was read
+abbrev pub recorded_items : RecordedView → List ItemView
+recorded_items recorded =
+    map Noted recorded.entries ++ (map Ended recorded.endings ++ map Read recorded.outputs)
+
+-- the text of a recording: the line of each item
+abbrev pub recorded_text : Variables → RecordedView → List ℕ
+recorded_text variables recorded = flat_map (item_text variables) (recorded_items recorded)
+
+-- the text of a journal: the line of each entry
+abbrev pub entries_text : Variables → List EntryView → List ℕ
+entries_text variables entries = flat_map (item_text variables) (map Noted entries)
+
+-- one more item in front
+abbrev pub with_item : ItemView → RecordedView → RecordedView
+with_item (Noted entry) recorded = record recorded { entries = entry ∷ recorded.entries }
+with_item (Ended ending) recorded = record recorded { endings = ending ∷ recorded.endings }
+with_item (Read output) recorded = record recorded { outputs = output ∷ recorded.outputs }
+
+-- one more item behind
+abbrev pub and_item : ItemView → RecordedView → RecordedView
+and_item (Noted entry) recorded = record recorded { entries = recorded.entries ++ entry ∷ [] }
+and_item (Ended ending) recorded = record recorded { endings = recorded.endings ++ ending ∷ [] }
+and_item (Read output) recorded = record recorded { outputs = recorded.outputs ++ output ∷ [] }
+
+-- what a line at this place means, in front of what is read behind it
+abbrev pub at_line : ℕ → Result ItemView Refusal → Result RecordedView LineRefusal
+    → Result RecordedView LineRefusal
+at_line place (Ok item) (Ok recorded) = Ok (with_item item recorded)
+at_line place (Ok item) (Err refusal) = Err refusal
+at_line place (Err refusal) read = Err (record { line = place; refusal = refusal })
+
+-- what lines mean, the first of which has this place
+abbrev pub lines_meant : ℕ → List (List ℕ) → Result RecordedView LineRefusal
+lines_meant place [] = Ok (record { entries = []; endings = []; outputs = [] })
+lines_meant place (line ∷ more) = at_line place (item_line line) (lines_meant (place + 1) more)
+
+-- what the text of a recording means
+unfoldable pub recording_meant : List ℕ → Result RecordedView LineRefusal
+recording_meant text = lines_meant 1 (lines text)
+
+-- the entries of what was read
+abbrev pub entries_read : Result RecordedView LineRefusal → Result (List EntryView) LineRefusal
+entries_read (Ok recorded) = Ok recorded.entries
+entries_read (Err refusal) = Err refusal
+
+-- what the text of a journal means: it may be that of a recording, of which the entries count
+abbrev pub journal_meant : List ℕ → Result (List EntryView) LineRefusal
+journal_meant text = entries_read (recording_meant text)
+
+-- the result is what is read, or an allocation failed
+abbrev pub JournalParses : {A B : Type 0} → (A → B) → Result A LineRefusal
+    → Result B LineRefusal → Type 0
+JournalParses view (Ok value) read = read ≡ Ok (view value)
+JournalParses view (Err at) read = at.refusal ≢ Memory → read ≡ Err at
+
+-- in front of any text, this line is read as this item
+abbrev pub ReadsFirst : List ℕ → ItemView → Type 0
+ReadsFirst line item =
+    (place : ℕ) (rest : List ℕ) → lines_meant place (lines (line ++ rest))
+    ≡ at_line place (Ok item) (lines_meant (place + 1) (lines rest))
+
+-- each of these items is read from its line
+abbrev pub AllRead : Variables → List ItemView → Type 0
+AllRead variables items = AllByRecursion (λ item. ReadsFirst (item_text variables item) item) items
+
+-- behind what was read comes the item that the line means
+abbrev pub AddsItem : List ℕ → RecordedView → RecordedView → Type 0
+AddsItem line old new =
+    (item : ItemView) × (new ≡ and_item item old) × (item_line line ≡ Ok item)
