@@ -2,7 +2,6 @@
 use Rattle.std.specs.Prelude.{ℕ, List, [], ◌∷◌, ◌++◌, ◌+◌, codes, drop, length, Some, None, if◌then◌else◌}
 use Rattle.std.specs.Fmt.{decimal}
 use Rattle.std.specs.declared.option.Option.{Option}
-use Rattle.duct_system.specs.SpecView.{Vars}
 use Rattle.duct_system.specs.declared.spec.Stream.{Stream}
 use Rattle.duct_system.specs.declared.spec.Stream.TheVariants.{In, Out, Err}
 use Rattle.duct_start.specs.Plan.{Plan, is_canonical, program_of}
@@ -17,6 +16,11 @@ of_text words text = joined (plain words ∷ quote text ∷ [])
 -- words, then the place of a request
 abbrev pub of_place : List ℕ → ℕ → Form
 of_place words place = plain (words ++ decimal place)
+
+-- the forms of some values, one after the other
+abbrev pub each_form : {A : Type 0} → (A → Form) → List A → Form
+each_form form [] = plain []
+each_form form (value ∷ others) = before (form value) (each_form form others)
 
 -- the folder of a command, if it has one
 abbrev pub folder_form : Option (List ℕ) → Form
@@ -42,30 +46,24 @@ target_form stream (WriterAt place) = of_place (codes "pipe ") place
 target_form stream (FileAt place) = of_place (codes "file ") place
 target_form stream (Lends end) = plain (codes "an end of the caller")
 
--- some variables, with a space before each
-abbrev pub variables_form : Vars → Form
-variables_form [] = plain []
-variables_form (variable ∷ others) =
-    joined (plain (codes " ") ∷ quote variable.0 ∷ plain (codes "=") ∷ quote variable.1
-    ∷ variables_form others ∷ [])
+-- words, then a variable with its value
+abbrev pub of_variable : List ℕ → List ℕ → List ℕ → Form
+of_variable words name value =
+    joined (plain words ∷ quote name ∷ plain (codes "=") ∷ quote value ∷ [])
+
+-- one of the variables that replace all others
+abbrev pub variable_form : List ℕ × List ℕ → Form
+variable_form variable = of_variable (codes " ") variable.0 variable.1
 
 -- a change of the variables
 abbrev pub change_form : VariableChange → Form
-change_form (Sets name value) =
-    joined (plain (codes " with ") ∷ quote name ∷ plain (codes "=") ∷ quote value ∷ [])
+change_form (Sets name value) = of_variable (codes " with ") name value
 change_form (Removes name) = of_text (codes " without ") name
-change_form (Replaces vars) = joined (plain (codes " with only") ∷ variables_form vars ∷ [])
+change_form (Replaces vars) = before (plain (codes " with only")) (each_form variable_form vars)
 
--- changes of the variables, the nearest first
-abbrev pub changes_form : List VariableChange → Form
-changes_form [] = plain []
-changes_form (change ∷ further) = joined (change_form change ∷ changes_form further ∷ [])
-
--- arguments, with a space before each
-abbrev pub arguments_form : List (List ℕ) → Form
-arguments_form [] = plain []
-arguments_form (argument ∷ others) =
-    before (of_text (codes " ") argument) (arguments_form others)
+-- an argument
+abbrev pub argument_form : List ℕ → Form
+argument_form argument = of_text (codes " ") argument
 
 -- a program: unknown where its canonical path is requested first
 unfoldable pub program_form : {E H : Type 0} → Surroundings E H → List (List ℕ) → Form
@@ -88,20 +86,18 @@ streams_form found =
     ∷ stream_form (codes ", stdout ") Out found.output
     ∷ stream_form (codes ", stderr ") Err found.error ∷ [])
 
--- a program and its arguments
+-- what is started: a program, its arguments, its folder and the changes of its variables, the
+-- nearest first
 unfoldable pub command_form : {E H : Type 0} → Surroundings E H → List (List ℕ) → Form
 command_form found words =
-    joined (program_form found words ∷ arguments_form (drop 1 words) ∷ [])
-
--- the folder and the changes of the variables of a command
-unfoldable pub settings_form : {E H : Type 0} → Surroundings E H → Form
-settings_form found = joined (folder_form found.folder ∷ changes_form found.changes ∷ [])
+    joined (program_form found words ∷ each_form argument_form (drop 1 words)
+    ∷ folder_form found.folder ∷ each_form change_form found.changes ∷ [])
 
 -- the spawn of a command
 unfoldable pub spawn_form : {E H : Type 0} → Surroundings E H → List (List ℕ) → Form
 spawn_form found words =
-    joined (plain (codes "spawn of ") ∷ command_form found words ∷ settings_form found
-    ∷ streams_form found ∷ hooks_form found.hooks ∷ [])
+    joined (plain (codes "spawn of ") ∷ command_form found words ∷ streams_form found
+    ∷ hooks_form found.hooks ∷ [])
 
 -- one request
 unfoldable pub item_form : {E H : Type 0} → Item E H → Form
@@ -116,7 +112,7 @@ item_form (AskDrain place) = of_place (codes "capture worker of pipe ") place
 item_form (AskReader place) = of_place (codes "reader of pipe ") place
 
 -- the line of the request at this place
-unfoldable pub line_form : {E H : Type 0} → ℕ → Item E H → Form
+abbrev pub line_form : {E H : Type 0} → ℕ → Item E H → Form
 line_form place item =
     joined (of_place [] place ∷ plain (codes " ") ∷ item_form item ∷ plain (codes "\n") ∷ [])
 

@@ -6,11 +6,11 @@ use Rattle.duct_system.specs.SpecView.{var_view}
 use Rattle.duct_start.specs.Plan as plan
 use Rattle.duct_start.specs.Step as request
 use Rattle.duct_start.specs.Surroundings as outwards
-use Rattle.duct_plan.specs.declared.found.VariableChange.{VariableChange}
-use Rattle.duct_plan.specs.declared.found.VariableChange.TheVariants.{Sets, Removes, Replaces}
-use Rattle.duct_plan.specs.declared.found.Surroundings.{Surroundings}
-use Rattle.duct_plan.specs.declared.found.Target.{Target}
-use Rattle.duct_plan.specs.declared.found.Target.TheVariants.{Parents, Nothing, ReaderAt, WriterAt, FileAt, Lends}
+use Rattle.duct_plan.specs.declared.items.VariableChange.{VariableChange}
+use Rattle.duct_plan.specs.declared.items.VariableChange.TheVariants.{Sets, Removes, Replaces}
+use Rattle.duct_plan.specs.declared.items.Surroundings.{Surroundings}
+use Rattle.duct_plan.specs.declared.items.Target.{Target}
+use Rattle.duct_plan.specs.declared.items.Target.TheVariants.{Parents, Nothing, ReaderAt, WriterAt, FileAt, Lends}
 use Rattle.duct_plan.specs.declared.items.Item.{Item}
 use Rattle.duct_plan.specs.declared.items.Item.TheVariants.{Environment, Pipe, OpenRead, Create, Canonicalize, Spawn, Feed, Drain, Reader}
 use Rattle.duct_plan.specs.declared.items.Plan.{Plan}

@@ -1,9 +1,9 @@
 //! The drawing of a plan: a graph in the DOT language of Graphviz.
-use crate::found::Target;
-use crate::items::{Item, Plan};
+use crate::items::{Item, Plan, Target};
 use crate::requests::program_of;
 use duct::Stream;
 use std::fmt;
+use std::fmt::{Formatter, Write};
 
 /// A plan as a directed graph in the DOT language, as `dot -Tsvg` reads it.
 ///
@@ -21,50 +21,41 @@ use std::fmt;
 pub struct PlanDot<'a, 't, E, H>(pub &'a Plan<'t, E, H>);
 
 impl<E, H> fmt::Display for PlanDot<'_, '_, E, H> {
-    fn fmt<W: fmt::Write>(&self, f: &mut fmt::Formatter<W>) -> fmt::Result {
+    fn fmt<W: Write>(&self, f: &mut Formatter<W>) -> fmt::Result {
         f.write_str("digraph plan {\n  rankdir=LR;\n")?;
-        for place in 0..self.0.items.len() {
-            draw(&self.0.items[place], place, f)?;
+        for (place, item) in self.0.items.iter().enumerate() {
+            match item {
+                Item::Environment | Item::Canonicalize(_) => {}
+                Item::Pipe => write!(f, "  n{place} [shape=point];\n")?,
+                Item::OpenRead(path) | Item::Create(path) => {
+                    write!(f, "  n{place} [label={path:?}, shape=note];\n")?
+                }
+                Item::Spawn(found, words) => {
+                    let program = program_of(words);
+                    write!(f, "  n{place} [label={program:?}")?;
+                    for argument in words.get(1..).unwrap_or(&[]) {
+                        write!(f, " + \" \" + {argument:?}")?;
+                    }
+                    f.write_str(", shape=box];\n")?;
+                    write!(f, "  {} -> n{place};\n", Joined(found.input))?;
+                    write!(f, "  n{place} -> {};\n", Joined(found.output))?;
+                    write!(f, "  n{place} -> {} [label=stderr];\n", Joined(found.error))?
+                }
+                Item::Feed(pipe, _) => {
+                    write!(f, "  n{place} [label=\"input worker\"];\n")?;
+                    write!(f, "  n{place} -> n{pipe};\n")?
+                }
+                Item::Drain(pipe) => {
+                    write!(f, "  n{place} [label=\"capture worker\"];\n")?;
+                    write!(f, "  n{pipe} -> n{place};\n")?
+                }
+                Item::Reader(pipe) => {
+                    write!(f, "  n{place} [label=\"reader\"];\n")?;
+                    write!(f, "  n{pipe} -> n{place};\n")?
+                }
+            }
         }
         f.write_str("}\n")
-    }
-}
-
-// Writes the node and the edges of the request at this place, if it has some.
-fn draw<E, H, W: fmt::Write>(
-    item: &Item<'_, E, H>,
-    place: usize,
-    f: &mut fmt::Formatter<W>,
-) -> fmt::Result {
-    match item {
-        Item::Environment | Item::Canonicalize(_) => Ok(()),
-        Item::Pipe => write!(f, "  n{place} [shape=point];\n"),
-        Item::OpenRead(path) | Item::Create(path) => {
-            write!(f, "  n{place} [label={path:?}, shape=note];\n")
-        }
-        Item::Spawn(found, words) => {
-            let program = program_of(words);
-            write!(f, "  n{place} [label={program:?}")?;
-            for argument in words.get(1..).unwrap_or(&[]) {
-                write!(f, " + \" \" + {argument:?}")?;
-            }
-            f.write_str(", shape=box];\n")?;
-            write!(f, "  {} -> n{place};\n", Joined(found.input))?;
-            write!(f, "  n{place} -> {};\n", Joined(found.output))?;
-            write!(f, "  n{place} -> {} [label=stderr];\n", Joined(found.error))
-        }
-        Item::Feed(pipe, _) => {
-            write!(f, "  n{place} [label=\"input worker\"];\n")?;
-            write!(f, "  n{place} -> n{pipe};\n")
-        }
-        Item::Drain(pipe) => {
-            write!(f, "  n{place} [label=\"capture worker\"];\n")?;
-            write!(f, "  n{pipe} -> n{place};\n")
-        }
-        Item::Reader(pipe) => {
-            write!(f, "  n{place} [label=\"reader\"];\n")?;
-            write!(f, "  n{pipe} -> n{place};\n")
-        }
     }
 }
 
@@ -73,7 +64,7 @@ fn draw<E, H, W: fmt::Write>(
 struct Joined<'t, E>(Target<'t, E>);
 
 impl<E> fmt::Display for Joined<'_, E> {
-    fn fmt<W: fmt::Write>(&self, f: &mut fmt::Formatter<W>) -> fmt::Result {
+    fn fmt<W: Write>(&self, f: &mut Formatter<W>) -> fmt::Result {
         match self.0 {
             Target::Parents(Stream::In) => f.write_str("stdin"),
             Target::Parents(Stream::Out) => f.write_str("stdout"),

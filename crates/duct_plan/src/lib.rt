@@ -3,15 +3,13 @@
 #![tactic(auto)]
 
 mod dot;
-mod found;
 mod items;
 mod program;
 mod requests;
 mod text;
 
 pub use dot::PlanDot;
-pub use found::{Surroundings, Target, VariableChange};
-pub use items::{Item, Plan};
+pub use items::{Item, Plan, Surroundings, Target, VariableChange};
 pub use program::{NoEnd, drawing, perform, preview};
 pub use requests::{plan, plan_of_reader};
 pub use text::PlanText;

@@ -1,8 +1,7 @@
 //! The requests of a start, computed from the tree alone.
 ghost use Rattle.std.specs.Prelude.{◌≡◌, ◌+◌, ◌<◌, IfOk, OnOk, map, string_bytes};
-ghost use Rattle.duct_system.specs.declared.system.Side.TheVariants as side;
 ghost use Rattle.duct_run.proofs.PlanInward.{plan_inward};
-ghost use Rattle.duct_start.specs.Plan.{with_item, with_capture, with_opening, place_for, with_closing, program_of, is_canonical, with_command, initial_plan, with_drain, with_reader, plan_of, plan_of_reader};
+ghost use Rattle.duct_start.specs.Plan.{capture_place, with_item, with_capture, with_opening, place_for, with_closing, program_of, is_canonical, with_command, initial_plan, with_drain, with_reader, plan_of, plan_of_reader};
 ghost use Rattle.duct_start.specs.Step.{opening_of, closing_of};
 ghost use Rattle.duct_tree.specs.EffectView.{opening_view};
 ghost use Rattle.duct_tree.specs.NodeView.{node_view};
@@ -10,8 +9,7 @@ ghost use Rattle.duct.specs.TreeView.{tree_view};
 ghost use Rattle.duct_plan.specs.PlanView.{found_of, item_of, plan_view};
 ghost use Rattle.duct_plan.specs.Inside.{after_tasks, tasks_left, tasks_of_tree};
 
-use crate::found::{Surroundings, Target};
-use crate::items::{Item, Plan};
+use crate::items::{Item, Plan, Surroundings, Target};
 use duct::tree::Node;
 use duct::{Expression, Side, asks_canonical};
 use duct_tree::effect::{Opening, effect_of};
@@ -46,7 +44,7 @@ pub fn plan_of_reader<'t, E: Drop, H: Drop>(
 {
     let first = initial_plan(alloc)?;
     let place = first.items.len();
-    let plan = with_output_capture(first)?;
+    let plan = with_capture(Side::Out, first)?;
     let found = Surroundings::at_root(alloc).with_output(Target::WriterAt(place));
     let plan = plan_of_subtree(alloc, found, expression.root(), plan)?;
     let (out, err) = (plan.out, plan.err);
@@ -83,34 +81,33 @@ fn with_item<'t, E: Drop, H: Drop>(
     Ok(Plan { items, out, err })
 }
 
-/// Adds the request for stdout's capture pipe to the plan, if that isn't open yet.
-fn with_output_capture<'t, E: Drop, H: Drop>(
+/// Adds the request for the capture pipe of this stream to the plan, if that isn't open yet.
+fn with_capture<'t, E: Drop, H: Drop>(
+    side: Side,
     plan: Plan<'t, E, H>,
 ) -> Result<Plan<'t, E, H>, AllocError>
-    ensures { IfOk result (λ more. plan_view more ≡ with_capture side.Out (plan_view plan.entry)) }
+    ensures { IfOk result (λ more. plan_view more ≡ with_capture side (plan_view plan.entry)) }
 {
-    if plan.out.is_some() {
+    if pipe_on(side, &plan).is_some() {
         return Ok(plan);
     }
     let place = plan.items.len();
     let mut more = with_item(Item::Pipe, plan)?;
-    more.out = Some(place);
+    match side {
+        Side::Out => more.out = Some(place),
+        Side::Err => more.err = Some(place),
+    }
     Ok(more)
 }
 
-/// Adds the request for stderr's capture pipe to the plan, if that isn't open yet.
-fn with_error_capture<'t, E: Drop, H: Drop>(
-    plan: Plan<'t, E, H>,
-) -> Result<Plan<'t, E, H>, AllocError>
-    ensures { IfOk result (λ more. plan_view more ≡ with_capture side.Err (plan_view plan.entry)) }
+/// Returns the place of the capture pipe of this stream, if that is open.
+fn pipe_on<E, H>(side: Side, plan: &Plan<'_, E, H>) -> Option<usize>
+    ensures { result ≡ capture_place side (plan_view plan.now) }
 {
-    if plan.err.is_some() {
-        return Ok(plan);
+    match side {
+        Side::Out => plan.out,
+        Side::Err => plan.err,
     }
-    let place = plan.items.len();
-    let mut more = with_item(Item::Pipe, plan)?;
-    more.err = Some(place);
-    Ok(more)
 }
 
 /// Adds the worker of a capture pipe to the plan, if that pipe is open.
@@ -143,10 +140,7 @@ fn with_reader<'t, E: Drop, H: Drop>(
 pub(crate) fn program_of(words: &[String]) -> &str
     ensures { result.now ≡ program_of (map string_bytes words.now) }
 {
-    match words.split_first() {
-        None => "",
-        Some((program, _)) => program.as_str(),
-    }
+    words.first().map_or("", |program| program.as_str())
 }
 
 /// Returns whether the canonical path of a command's program is requested before its spawn.
@@ -263,8 +257,7 @@ fn with_opening<'t, E: Drop, H: Drop>(
         Opening::Input(_) => with_item(Item::Pipe, plan),
         Opening::Read(path) => with_item(Item::OpenRead(path), plan),
         Opening::Create(path) => with_item(Item::Create(path), plan),
-        Opening::Capture(Side::Out) => with_output_capture(plan),
-        Opening::Capture(Side::Err) => with_error_capture(plan),
+        Opening::Capture(side) => with_capture(side, plan),
     }
 }
 
@@ -276,8 +269,7 @@ fn place_for<E, H>(opening: Opening<'_>, plan: &Plan<'_, E, H>) -> usize
     let next = plan.items.len();
     match opening {
         Opening::Nothing | Opening::Input(_) | Opening::Read(_) | Opening::Create(_) => next,
-        Opening::Capture(Side::Out) => plan.out.unwrap_or(next),
-        Opening::Capture(Side::Err) => plan.err.unwrap_or(next),
+        Opening::Capture(side) => pipe_on(side, plan).unwrap_or(next),
     }
 }
 

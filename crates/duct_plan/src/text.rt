@@ -4,16 +4,16 @@ ghost use Rattle.std.specs.Fmt.{DisplaysOnOk};
 ghost use Rattle.std.specs.Option.{option_copied};
 ghost use Rattle.duct_system.specs.SpecView.{var_view};
 ghost use Rattle.duct_tree.specs.Text.{printed};
-ghost use Rattle.duct_plan.specs.PlanView.{change_of, found_of, item_of, target_of};
-ghost use Rattle.duct_plan.specs.PlanForm.{arguments_form, change_form, changes_form, command_form, folder_form, hooks_form, item_form, line_form, lines_form, parents_text, program_form, settings_form, spawn_form, stream_form, streams_form, target_form, variables_form};
+ghost use Rattle.duct_plan.specs.PlanView.{change_of, found_of, target_of};
+ghost use Rattle.duct_plan.specs.PlanForm.{argument_form, change_form, command_form, each_form, folder_form, hooks_form, parents_text, program_form, spawn_form, stream_form, streams_form, variable_form};
 
-use crate::found::{Surroundings, Target, VariableChange};
-use crate::items::{Item, Plan};
+use crate::items::{Item, Plan, Surroundings, Target, VariableChange};
 use crate::requests::{is_canonical, program_of};
 use duct::Stream;
 use duct_base::names::EnvNameString;
 use std::collections::btree_map::Iter;
 use std::fmt;
+use std::fmt::{Formatter, Write};
 
 /// A plan as text: a line for each request, with its place, as in `3 open of "f"` or
 /// `4 spawn of "sort" "-u", stdin file 3, stdout pipe 1, stderr inherited`. A pipe, a file or a
@@ -29,126 +29,95 @@ impl<E, H> fmt::Display for PlanText<'_, '_, E, H> {
 
     ghost output = { λ text. plan_text (plan_view text.0.now) };
 
-    fn fmt<W: fmt::Write>(&self, f: &mut fmt::Formatter<W>) -> fmt::Result {
-        write_lines(self.0.items.as_slice(), f)
+    fn fmt<W: Write>(&self, f: &mut Formatter<W>) -> fmt::Result {
+        let items = self.0.items.as_slice();
+        let mut place: usize = 0;
+        for item in items {
+            write!(f, "{place} {item}\n")?;
+            place += 1;
+        }
+        Ok(())
     }
 }
 
-// Writes a line for each request.
-fn write_lines<E, H, W: fmt::Write>(
-    items: &[Item<'_, E, H>],
-    f: &mut fmt::Formatter<W>,
-) -> fmt::Result
-    ensures { DisplaysOnOk W.write_str_gives f.old result
-        (printed (lines_form 0 (map item_of items.now))) f.new }
-{
-    let mut place = 0;
-    for item in items {
-        write_line(item, place, f)?;
-        place += 1;
-    }
-    Ok(())
-}
+impl<E, H> fmt::Display for Item<'_, E, H> {
+    ghost use Rattle.duct_tree.specs.Text.{printed};
+    ghost use Rattle.duct_plan.specs.PlanView.{item_of};
+    ghost use Rattle.duct_plan.specs.PlanForm.{item_form};
 
-// Writes the line of the request at this place.
-#[tactic(auto, unfolding(crate::specs::PlanForm::line_form))]
-fn write_line<E, H, W: fmt::Write>(
-    item: &Item<'_, E, H>,
-    place: usize,
-    f: &mut fmt::Formatter<W>,
-) -> fmt::Result
-    ensures { DisplaysOnOk W.write_str_gives f.old result
-        (printed (line_form place (item_of item.now))) f.new }
-{
-    write!(f, "{place} ")?;
-    write_item(item, f)?;
-    f.write_str("\n")
-}
+    ghost output = { λ item. printed (item_form (item_of item)) };
 
-// Writes one request.
-#[tactic(auto, unfolding(crate::specs::PlanForm::item_form))]
-fn write_item<E, H, W: fmt::Write>(item: &Item<'_, E, H>, f: &mut fmt::Formatter<W>) -> fmt::Result
-    ensures { DisplaysOnOk W.write_str_gives f.old result
-        (printed (item_form (item_of item.now))) f.new }
-{
-    match item {
-        Item::Environment => f.write_str("environment"),
-        Item::Pipe => f.write_str("pipe"),
-        Item::OpenRead(path) => write!(f, "open of {path:?}"),
-        Item::Create(path) => write!(f, "create of {path:?}"),
-        Item::Canonicalize(program) => write!(f, "canonical path of {program:?}"),
-        Item::Spawn(found, words) => write_spawn(found, words, f),
-        Item::Feed(place, _) => write!(f, "input worker of pipe {place}"),
-        Item::Drain(place) => write!(f, "capture worker of pipe {place}"),
-        Item::Reader(place) => write!(f, "reader of pipe {place}"),
+    /// Writes the request as its line in a `PlanText` has it, for example `open of "f"`.
+    #[tactic(auto, unfolding(crate::specs::PlanForm::item_form))]
+    fn fmt<W: Write>(&self, f: &mut Formatter<W>) -> fmt::Result {
+        match self {
+            Item::Environment => f.write_str("environment"),
+            Item::Pipe => f.write_str("pipe"),
+            Item::OpenRead(path) => write!(f, "open of {path:?}"),
+            Item::Create(path) => write!(f, "create of {path:?}"),
+            Item::Canonicalize(program) => write!(f, "canonical path of {program:?}"),
+            Item::Spawn(found, words) => found.write_spawn(words, f),
+            Item::Feed(place, _) => write!(f, "input worker of pipe {place}"),
+            Item::Drain(place) => write!(f, "capture worker of pipe {place}"),
+            Item::Reader(place) => write!(f, "reader of pipe {place}"),
+        }
     }
 }
 
-// Writes the spawn of a command.
-#[tactic(auto, unfolding(crate::specs::PlanForm::spawn_form))]
-fn write_spawn<E, H, W: fmt::Write>(
-    found: &Surroundings<'_, E, H>,
-    words: &[String],
-    f: &mut fmt::Formatter<W>,
-) -> fmt::Result
-    ensures { DisplaysOnOk W.write_str_gives f.old result
-        (printed (spawn_form (found_of found.now) (map string_bytes words.now))) f.new }
-{
-    f.write_str("spawn of ")?;
-    write_command(found, words, f)?;
-    write_settings(found, f)?;
-    write_streams(found, f)?;
-    write_hooks(found.hooks.as_slice(), f)
-}
-
-// Writes a program and its arguments.
-#[tactic(auto, unfolding(crate::specs::PlanForm::command_form))]
-fn write_command<E, H, W: fmt::Write>(
-    found: &Surroundings<'_, E, H>,
-    words: &[String],
-    f: &mut fmt::Formatter<W>,
-) -> fmt::Result
-    ensures { DisplaysOnOk W.write_str_gives f.old result
-        (printed (command_form (found_of found.now) (map string_bytes words.now))) f.new }
-{
-    write_program(found, words, f)?;
-    write_arguments(words.get(1..).unwrap_or(&[]), f)
-}
-
-// Writes the folder and the changes of the variables of a command.
-#[tactic(auto, unfolding(crate::specs::PlanForm::settings_form))]
-fn write_settings<E, H, W: fmt::Write>(
-    found: &Surroundings<'_, E, H>,
-    f: &mut fmt::Formatter<W>,
-) -> fmt::Result
-    ensures { DisplaysOnOk W.write_str_gives f.old result
-        (printed (settings_form (found_of found.now))) f.new }
-{
-    write_folder(found.folder, f)?;
-    write_changes(found.changes.as_slice(), f)
-}
-
-// Writes a program, or a question mark where its canonical path is requested first.
-#[tactic(auto, unfolding(crate::specs::PlanForm::program_form))]
-fn write_program<E, H, W: fmt::Write>(
-    found: &Surroundings<'_, E, H>,
-    words: &[String],
-    f: &mut fmt::Formatter<W>,
-) -> fmt::Result
-    ensures { DisplaysOnOk W.write_str_gives f.old result
-        (printed (program_form (found_of found.now) (map string_bytes words.now))) f.new }
-{
-    if is_canonical(found, words) {
-        return f.write_str("?");
+impl<E, H> Surroundings<'_, E, H> {
+    // Writes the spawn of a command that finds this.
+    #[tactic(auto, unfolding(crate::specs::PlanForm::spawn_form))]
+    fn write_spawn<W: Write>(&self, words: &[String], f: &mut Formatter<W>) -> fmt::Result
+        ensures { DisplaysOnOk W.write_str_gives f.old result
+            (printed (spawn_form (found_of self.now) (map string_bytes words.now))) f.new }
+    {
+        f.write_str("spawn of ")?;
+        self.write_command(words, f)?;
+        self.write_streams(f)?;
+        write_hooks(self.hooks.as_slice(), f)
     }
-    let program = program_of(words);
-    write!(f, "{program:?}")
+
+    // Writes what is started: a program, its arguments, its folder and the changes of its variables.
+    #[tactic(auto, unfolding(crate::specs::PlanForm::command_form))]
+    fn write_command<W: Write>(&self, words: &[String], f: &mut Formatter<W>) -> fmt::Result
+        ensures { DisplaysOnOk W.write_str_gives f.old result
+            (printed (command_form (found_of self.now) (map string_bytes words.now))) f.new }
+    {
+        self.write_program(words, f)?;
+        write_arguments(words.get(1..).unwrap_or(&[]), f)?;
+        write_folder(self.folder, f)?;
+        write_changes(self.changes.as_slice(), f)
+    }
+
+    // Writes where the streams of a command go.
+    #[tactic(auto, unfolding(crate::specs::PlanForm::streams_form))]
+    fn write_streams<W: Write>(&self, f: &mut Formatter<W>) -> fmt::Result
+        ensures { DisplaysOnOk W.write_str_gives f.old result
+            (printed (streams_form (found_of self.now))) f.new }
+    {
+        write_stream(", stdin ", Stream::In, self.input, f)?;
+        write_stream(", stdout ", Stream::Out, self.output, f)?;
+        write_stream(", stderr ", Stream::Err, self.error, f)
+    }
+
+    // Writes a program, or a question mark where its canonical path is requested first.
+    #[tactic(auto, unfolding(crate::specs::PlanForm::program_form))]
+    fn write_program<W: Write>(&self, words: &[String], f: &mut Formatter<W>) -> fmt::Result
+        ensures { DisplaysOnOk W.write_str_gives f.old result
+            (printed (program_form (found_of self.now) (map string_bytes words.now))) f.new }
+    {
+        if is_canonical(self, words) {
+            return f.write_str("?");
+        }
+        let program = program_of(words);
+        write!(f, "{program:?}")
+    }
 }
 
 // Writes arguments, with a space before each.
-fn write_arguments<W: fmt::Write>(arguments: &[String], f: &mut fmt::Formatter<W>) -> fmt::Result
+fn write_arguments<W: Write>(arguments: &[String], f: &mut Formatter<W>) -> fmt::Result
     ensures { DisplaysOnOk W.write_str_gives f.old result
-        (printed (arguments_form (map string_bytes arguments.now))) f.new }
+        (printed (each_form argument_form (map string_bytes arguments.now))) f.new }
 {
     for argument in arguments {
         write!(f, " {argument:?}")?;
@@ -157,7 +126,7 @@ fn write_arguments<W: fmt::Write>(arguments: &[String], f: &mut fmt::Formatter<W
 }
 
 // Writes a folder, if there is one.
-fn write_folder<W: fmt::Write>(folder: Option<&str>, f: &mut fmt::Formatter<W>) -> fmt::Result
+fn write_folder<W: Write>(folder: Option<&str>, f: &mut Formatter<W>) -> fmt::Result
     ensures { DisplaysOnOk W.write_str_gives f.old result
         (printed (folder_form (option_copied folder.entry))) f.new }
 {
@@ -168,12 +137,9 @@ fn write_folder<W: fmt::Write>(folder: Option<&str>, f: &mut fmt::Formatter<W>) 
 }
 
 // Writes changes of the variables, the nearest first.
-fn write_changes<W: fmt::Write>(
-    changes: &[VariableChange<'_>],
-    f: &mut fmt::Formatter<W>,
-) -> fmt::Result
+fn write_changes<W: Write>(changes: &[VariableChange<'_>], f: &mut Formatter<W>) -> fmt::Result
     ensures { DisplaysOnOk W.write_str_gives f.old result
-        (printed (changes_form (map change_of changes.now))) f.new }
+        (printed (each_form change_form (map change_of changes.now))) f.new }
 {
     match changes.split_first() {
         None => Ok(()),
@@ -185,7 +151,7 @@ fn write_changes<W: fmt::Write>(
 }
 
 // Writes a change of the variables.
-fn write_change<W: fmt::Write>(change: VariableChange<'_>, f: &mut fmt::Formatter<W>) -> fmt::Result
+fn write_change<W: Write>(change: VariableChange<'_>, f: &mut Formatter<W>) -> fmt::Result
     ensures { DisplaysOnOk W.write_str_gives f.old result
         (printed (change_form (change_of change.entry))) f.new }
 {
@@ -200,12 +166,12 @@ fn write_change<W: fmt::Write>(change: VariableChange<'_>, f: &mut fmt::Formatte
 }
 
 // Writes the remaining variables, with a space before each.
-fn write_variables<W: fmt::Write>(
+fn write_variables<W: Write>(
     mut rest: Iter<'_, EnvNameString, String>,
-    f: &mut fmt::Formatter<W>,
+    f: &mut Formatter<W>,
 ) -> fmt::Result
     ensures { DisplaysOnOk W.write_str_gives f.old result
-        (printed (variables_form (map var_view rest.entry))) f.new }
+        (printed (each_form variable_form (map var_view rest.entry))) f.new }
 {
     match rest.next() {
         None => Ok(()),
@@ -216,44 +182,18 @@ fn write_variables<W: fmt::Write>(
     }
 }
 
-// Writes where the streams of a command go.
-#[tactic(auto, unfolding(crate::specs::PlanForm::streams_form))]
-fn write_streams<E, H, W: fmt::Write>(
-    found: &Surroundings<'_, E, H>,
-    f: &mut fmt::Formatter<W>,
-) -> fmt::Result
-    ensures { DisplaysOnOk W.write_str_gives f.old result
-        (printed (streams_form (found_of found.now))) f.new }
-{
-    write_stream(", stdin ", Stream::In, found.input, f)?;
-    write_stream(", stdout ", Stream::Out, found.output, f)?;
-    write_stream(", stderr ", Stream::Err, found.error, f)
-}
-
 // Writes a stream, by its name, and where it goes.
 #[tactic(auto, unfolding(crate::specs::PlanForm::stream_form))]
-fn write_stream<E, W: fmt::Write>(
+fn write_stream<E, W: Write>(
     name: &str,
     stream: Stream,
     target: Target<'_, E>,
-    f: &mut fmt::Formatter<W>,
+    f: &mut Formatter<W>,
 ) -> fmt::Result
     ensures { DisplaysOnOk W.write_str_gives f.old result
         (printed (stream_form name.now stream (target_of target.entry))) f.new }
 {
     f.write_str(name)?;
-    write_target(stream, target, f)
-}
-
-// Writes where a stream goes.
-fn write_target<E, W: fmt::Write>(
-    stream: Stream,
-    target: Target<'_, E>,
-    f: &mut fmt::Formatter<W>,
-) -> fmt::Result
-    ensures { DisplaysOnOk W.write_str_gives f.old result
-        (printed (target_form stream (target_of target.entry))) f.new }
-{
     match target {
         Target::Parents(parents) => f.write_str(parents_text(stream, parents)),
         Target::Nothing => f.write_str("nothing"),
@@ -275,7 +215,7 @@ fn parents_text(stream: Stream, parents: Stream) -> &'static str
 }
 
 // Writes how many hooks may change the command, if any.
-fn write_hooks<A, W: fmt::Write>(hooks: &[A], f: &mut fmt::Formatter<W>) -> fmt::Result
+fn write_hooks<A, W: Write>(hooks: &[A], f: &mut Formatter<W>) -> fmt::Result
     ensures { DisplaysOnOk W.write_str_gives f.old result (printed (hooks_form hooks.now)) f.new }
 {
     let count = hooks.len();
