@@ -4,8 +4,8 @@ ghost use Rattle.std.specs.Fmt.{DisplaysOnOk};
 ghost use Rattle.std.specs.Option.{option_copied};
 ghost use Rattle.duct_system.specs.SpecView.{var_view};
 ghost use Rattle.duct_tree.specs.Text.{printed};
-ghost use Rattle.duct_plan.specs.PlanView.{change_of, found_of, target_of};
-ghost use Rattle.duct_plan.specs.PlanForm.{argument_form, change_form, command_form, each_form, folder_form, hooks_form, parents_text, program_form, spawn_form, stream_form, streams_form, variable_form};
+ghost use Rattle.duct_plan.specs.PlanView.{change_of, found_of, item_of, target_of};
+ghost use Rattle.duct_plan.specs.PlanForm.{argument_form, change_form, command_form, each_form, folder_form, hooks_form, item_form, line_form, parents_text, program_form, spawn_form, stream_form, streams_form, variable_form};
 
 use crate::items::{Item, Plan, Surroundings, Target, VariableChange};
 use crate::requests::{is_canonical, program_of};
@@ -30,26 +30,32 @@ impl<E, H> fmt::Display for PlanText<'_, '_, E, H> {
     ghost output = { λ text. plan_text (plan_view text.0.now) };
 
     fn fmt<W: Write>(&self, f: &mut Formatter<W>) -> fmt::Result {
-        let items = self.0.items.as_slice();
         let mut place: usize = 0;
-        for item in items {
-            write!(f, "{place} {item}\n")?;
+        for item in self.0.items.as_slice() {
+            item.write_line(place, f)?;
             place += 1;
         }
         Ok(())
     }
 }
 
-impl<E, H> fmt::Display for Item<'_, E, H> {
-    ghost use Rattle.duct_tree.specs.Text.{printed};
-    ghost use Rattle.duct_plan.specs.PlanView.{item_of};
-    ghost use Rattle.duct_plan.specs.PlanForm.{item_form};
+impl<E, H> Item<'_, E, H> {
+    // Writes the line of the request, which has this place.
+    fn write_line<W: Write>(&self, place: usize, f: &mut Formatter<W>) -> fmt::Result
+        ensures { DisplaysOnOk W.write_str_gives f.old result
+            (printed (line_form place (item_of self.now))) f.new }
+    {
+        write!(f, "{place} ")?;
+        self.write_request(f)?;
+        f.write_str("\n")
+    }
 
-    ghost output = { λ item. printed (item_form (item_of item)) };
-
-    /// Writes the request as its line in a `PlanText` has it, for example `open of "f"`.
+    // Writes the request.
     #[tactic(auto, unfolding(crate::specs::PlanForm::item_form))]
-    fn fmt<W: Write>(&self, f: &mut Formatter<W>) -> fmt::Result {
+    fn write_request<W: Write>(&self, f: &mut Formatter<W>) -> fmt::Result
+        ensures { DisplaysOnOk W.write_str_gives f.old result
+            (printed (item_form (item_of self.now))) f.new }
+    {
         match self {
             Item::Environment => f.write_str("environment"),
             Item::Pipe => f.write_str("pipe"),

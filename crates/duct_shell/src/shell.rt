@@ -116,9 +116,11 @@ impl<S: System, R: Drop, H> Shell<S, R, H> {
     {
         let Shell {
             rt,
+            alloc: _,
             system,
             pool,
-            ..
+            keeps_journal: _,
+            hooks: _,
         } = self;
         drop(rt);
         (system, pool)

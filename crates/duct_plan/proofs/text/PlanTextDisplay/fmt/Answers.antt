@@ -13,9 +13,9 @@ loop-item-preserved g c = (
   continues_more g.W.Write.write_str_gives
       (λ place items. printed (lines_form place (map item_of items)))
       (λ place item. printed (line_form place (item_of item)))
-      _ _ _ _ c.loop-item.item-index c.write.new.self c.item-item.result
+      _ _ _ _ c.loop-item.item-index c.write_line.new.f c.item-item.result
       (λ place item items. refl) c.loop-item-test.true c.item-item.is
-      (rw c.loop-item.invariant.0 at c.in_ok-write.ensures.writes)
+      (rw c.loop-item.invariant.0 at c.in_ok-write_line.ensures)
       c.loop-item.invariant.1,
 )
 
