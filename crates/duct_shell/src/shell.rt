@@ -194,7 +194,10 @@ impl<S: System, R, H: Drop> Shell<S, R, H> {
 fn after(journal: &[Entry], entries: usize) -> &[Entry]
     ensures { map entry_view result.now ≡ drop entries (map entry_view journal.now) }
 {
-    journal.get(entries..).unwrap_or(&[])
+    match journal.split_at_checked(entries) {
+        Some((_, added)) => added,
+        None => &[],
+    }
 }
 
 impl<S: System, R, H: Hook> Shell<S, R, H> {

@@ -25,6 +25,7 @@ use std::rt::Files;
 use std::sync::Wait;
 
 /// A command that reads what `trace record` wrote, and what it says where that can't be read.
+#[derive(Clone, Copy)]
 pub struct Reading {
     program: Program,
     name: &'static str,
