@@ -1,6 +1,6 @@
 //! Requests to the system below, where a guard does more than to pass them on: it looks at its
 //! policy, or copies what the request takes or returns.
-ghost use Rattle.std.specs.Prelude.{◌≡◌, ◌<◌, ◌≤◌, ◌+◌, false, true, ◌⊎◌, ◌&&◌, min, nat_le, length, map, string_bytes, vec_len, vec_capacity, IfOk, IfErr, OnOk, OnErr, Ok, Err, ◌-◌};
+ghost use Rattle.std.specs.Prelude.{◌≡◌, ◌<◌, ◌≤◌, ◌+◌, false, true, ◌⊎◌, min, nat_le, length, map, string_bytes, vec_len, vec_capacity, IfOk, IfErr, OnOk, OnErr, Ok, Err, ◌-◌};
 ghost use Rattle.std.specs.Arc.{arc_value};
 ghost use Rattle.duct_system.specs.Child.{IsUnasked};
 ghost use Rattle.duct_system.specs.EntryView.{Environment, Pipe, Canonicalize, Spawn, Feed, answer_of, entry_view};
@@ -62,27 +62,8 @@ fn allows_ends<P: Policy>(policy: &P, held: Held, more: usize) -> bool
     ensures counts { result ≡ true → held.ends + more ≤ 18446744073709551615 }
 {
     let limit = policy.limits().ends;
-    match held.ends.checked_add(more) {
-        Some(ends) => ends <= limit,
-        None => false,
-    }
-}
-
-// Returns whether the policy allows a request that returns an end.
-fn may_open<P: Policy>(policy: &P, held: Held, request: Request) -> bool
-    ensures allowed { result ≡ ((P.rules policy.now).allows (request_view request.entry)
-        && nat_le (held.ends + 1) (P.rules policy.now).limits.ends) }
-    ensures counts { result ≡ true → held.ends + 1 ≤ 18446744073709551615 }
-{
-    policy.allows(request) && allows_ends(policy, held, 1)
-}
-
-// Returns whether a child may be started by this spec.
-fn may_spawn<P: Policy>(policy: &P, held: Held, spec: &CommandSpec) -> bool
-    ensures allowed { result ≡ allows_spawn (P.rules policy.now) held spec.now }
-    ensures counts { result ≡ true → held.children + 1 ≤ 18446744073709551615 }
-{
-    policy.allows(Request::Spawn(spec)) && held.children < policy.limits().children
+    let ends = held.ends.checked_add(more);
+    ends.is_some_and(|ends| ends <= limit)
 }
 
 /// Opens a pipe, if the policy allows two more ends.
@@ -172,7 +153,7 @@ pub(crate) fn end_allowed<S: System, P: Policy>(
         IsNew (S.journal_view sys.old) (S.journal_view sys.new) (S.End.number_of end)) }
     ensures counts { OnOk result (held.ends + 1 ≤ 18446744073709551615) }
 {
-    if may_open(policy, held, asked.request()) {
+    if policy.allows(asked.request()) && allows_ends(policy, held, 1) {
         end_asked(sys, asked)
     } else {
         Err(forbidden())
@@ -294,16 +275,13 @@ fn prepared<P: Policy, C: Child>(
         (fault ≡ refusal (allows_spawn (P.rules policy.now) held spec.now))
         ⊎ ((fault ≡ refusal false) × ((P.rules policy.now).at_once ≤ vec_len crew.new))) }
 {
-    if !may_spawn(policy, held, spec) || crew.len() >= policy.at_once() {
+    let allowed = policy.allows(Request::Spawn(spec)) && held.children < policy.limits().children;
+    if !allowed || crew.len() >= policy.at_once() {
         return Err(forbidden());
     }
-    let Some(notes) = prepare(alloc, crew) else {
-        return Err(no_memory());
-    };
-    match spec_copy(alloc, spec) {
-        Ok(copy) => Ok((copy, notes)),
-        Err(_) => Err(no_memory()),
-    }
+    let notes = prepare(alloc, crew).ok_or(no_memory())?;
+    let copy = spec_copy(alloc, spec).map_err(|_| no_memory())?;
+    Ok((copy, notes))
 }
 
 /// Starts a worker that writes the bytes to the end. Where the bytes can have no further owner, it

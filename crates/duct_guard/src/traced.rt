@@ -5,7 +5,6 @@ ghost use Rattle.duct_system.specs.Child.{IsUnasked};
 ghost use Rattle.duct_system.specs.EntryView.{Spawn};
 ghost use Rattle.duct_system.specs.Journal.{GivesEnds, IsNew, IsRefused};
 ghost use Rattle.duct_system.specs.Streams.{stream_of, ends_of};
-ghost use Rattle.duct_worker.specs.Transfer.{Writes};
 ghost use Rattle.duct_guard.specs.Traces.{Traces, line_in, line_of};
 
 use duct_system::spec::CommandSpec;
@@ -116,23 +115,13 @@ impl<S, W: Write> Traced<S, W> {
 fn written<W: Write>(writer: &mut W, bytes: &[u8]) -> Option<ErrorKind>
     ensures { Traces (W.contents writer.old) (W.contents writer.new) bytes.now None result }
 {
-    let stopped = write_stopped(writer, bytes);
+    let mut watched = Watched::new(&mut *writer);
+    write_whole(&mut watched, bytes);
+    let stopped = watched.stopped();
     if stopped.is_some() {
         return stopped;
     }
-    match writer.flush() {
-        Ok(()) => None,
-        Err(error) => Some(error.kind()),
-    }
-}
-
-// Writes these bytes. Returns the kind of the error that stopped the writer, if one did.
-fn write_stopped<W: Write>(writer: &mut W, bytes: &[u8]) -> Option<ErrorKind>
-    ensures { Writes (W.contents writer.old) (W.contents writer.new) bytes.now result }
-{
-    let mut watched = Watched::new(writer);
-    write_whole(&mut watched, bytes);
-    watched.stopped()
+    writer.flush().err().map(|error| error.kind())
 }
 
 /// Each request is that of the system below, with its result. Before a spawn its line is written.

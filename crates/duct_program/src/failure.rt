@@ -1,6 +1,6 @@
 //! Why the program has no text to print.
 ghost use Rattle.std.specs.Prelude.{◌≡◌};
-ghost use Rattle.duct_program.specs.Answered.{status_of};
+ghost use Rattle.duct_program.specs.Answered.{status_of, failure_text};
 
 use crate::usage::Usage;
 use duct::Error;
@@ -30,8 +30,6 @@ impl Failure {
 }
 
 impl fmt::Display for Failure {
-    ghost use Rattle.duct_program.specs.Answered.{failure_text};
-
     ghost output = { failure_text };
 
     fn fmt<W: fmt::Write>(&self, f: &mut fmt::Formatter<W>) -> fmt::Result {

@@ -6,9 +6,9 @@ ghost use Rattle.std.specs.declared.alloc.Global.{Global};
 ghost use Rattle.std.specs.declared.string.String.{String};
 ghost use Rattle.duct_program.specs.Answered.{IfRefused, IfUsage, PrintsError, PrintsText, WritesText, WritesUsage, line_of, AppendsFailure, PrintsFailure, failure_text, line_of_error, line_of_text};
 ghost use Rattle.duct_program.specs.Parsed.{RefusesAs};
-ghost use Rattle.duct_program.specs.declared.failure.Failure.TheVariants as failures;
 ghost use Rattle.duct_program.specs.declared.usage.Usage.{Usage};
 ghost use Rattle.duct_program.specs.declared.usage.Usage.TheVariants.{Memory};
+ghost use Rattle.duct_program.specs.declared.failure.Failure.TheVariants as failures;
 
 use crate::expression::line;
 use crate::failure::Failure;
@@ -50,8 +50,6 @@ pub fn answer<S: System, H: Hook + Drop>(
 pub struct NoHook;
 
 impl Hook for NoHook {
-    ghost use Rattle.std.specs.Prelude.{◌≡◌};
-
     ghost allows = { λ _ spec changed. changed ≡ spec };
 
     ghost refuses = { λ _ _ _. ⊥ };

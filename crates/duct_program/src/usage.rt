@@ -1,6 +1,7 @@
 //! Why arguments are no valid line.
-ghost use Rattle.std.specs.Prelude.{◌≡◌};
+ghost use Rattle.std.specs.Prelude.{◌≡◌, Some};
 ghost use Rattle.duct_program.specs.declared.usage.Usage.TheVariants.{Memory};
+ghost use Rattle.duct_program.specs.Answered.{usage_text};
 
 use std::alloc::{AllocError, AllocFailed};
 use std::{error, fmt};
@@ -19,9 +20,6 @@ pub enum Usage {
 }
 
 impl fmt::Display for Usage {
-    ghost use Rattle.std.specs.Prelude.{Some};
-    ghost use Rattle.duct_program.specs.Answered.{usage_text};
-
     ghost output = { λ usage. Some (usage_text usage) };
 
     fn fmt<W: fmt::Write>(&self, f: &mut fmt::Formatter<W>) -> fmt::Result {

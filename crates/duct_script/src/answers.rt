@@ -36,14 +36,8 @@ impl<T: Copy + Drop> Answers<T> {
         ensures rest { self.new.items.items ≡ left_of self.old.items.items }
     {
         if self.items.len() > 1 {
-            return match self.items.pop_front() {
-                Some(answer) => answer,
-                None => other,
-            };
+            return self.items.pop_front().unwrap_or(other);
         }
-        match self.items.front() {
-            Some(answer) => *answer,
-            None => other,
-        }
+        self.items.front().copied().unwrap_or(other)
     }
 }

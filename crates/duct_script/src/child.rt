@@ -1,7 +1,8 @@
 //! The children of a scripted system.
 ghost use Rattle.std.specs.Prelude.{◌≡◌, []};
-ghost use Rattle.duct_system.specs.Child.{OrdersChild, IsUnasked};
-ghost use Rattle.duct_script.specs.Told.{IsObeying};
+ghost use Rattle.duct_system.specs.Child.{OrdersChild, IsUnasked, PollsChild};
+ghost use Rattle.duct_script.specs.Told.{IsObeying, told_by, Obeys, child_view, poll_of};
+ghost use Rattle.std.proofs.Common.{refl};
 
 use crate::answers::Answers;
 use crate::calls::{Call, CallLog, note};
@@ -22,8 +23,6 @@ pub enum PollAnswer {
 }
 
 impl PollAnswer {
-    ghost use Rattle.duct_script.specs.Told.{told_by};
-
     /// Returns the result in the form of the interface.
     fn told(self) -> Result<Option<ExitStatus>, Fault>
         ensures { result ≡ told_by self }
@@ -75,8 +74,6 @@ pub struct ScriptChild {
 }
 
 impl ScriptChild {
-    ghost use Rattle.duct_script.specs.Told.{Obeys, child_view};
-
     /// Returns the child with this number, before any poll or order. It notes its calls in this
     /// log, if there is one.
     pub fn new(
@@ -146,11 +143,6 @@ impl Numbered for ScriptChild {
 }
 
 impl Child for ScriptChild {
-    ghost use Rattle.std.specs.Prelude.{◌≡◌};
-    ghost use Rattle.std.proofs.Common.{refl};
-    ghost use Rattle.duct_system.specs.Child.{OrdersChild, PollsChild};
-    ghost use Rattle.duct_script.specs.Told.{Obeys, poll_of, child_view};
-
     ghost may_answer = { λ _ _. Unit {0} };
 
     ghost may_obey = { λ _ _ _ _. Unit {0} };

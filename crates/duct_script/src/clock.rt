@@ -37,12 +37,7 @@ impl Clock for ScriptClock {
     fn now(&self) -> Duration {
         let place = self.asked.fetch_add(1, Ordering::SeqCst);
         let moments = self.moments.as_slice();
-        match moments.get(place as usize) {
-            Some(moment) => *moment,
-            None => match moments.last() {
-                Some(last) => *last,
-                None => Duration::ZERO,
-            },
-        }
+        let moment = moments.get(place as usize).or(moments.last());
+        moment.copied().unwrap_or(Duration::ZERO)
     }
 }

@@ -1,5 +1,5 @@
 //! A hook that makes the changes of a list.
-ghost use Rattle.std.specs.Prelude.{◌≡◌, ◌≢◌, [], string_bytes, map, None, OnOk, OnErr, IfErr};
+ghost use Rattle.std.specs.Prelude.{◌≡◌, ◌≢◌, [], string_bytes, map, None, OnOk, OnErr, IfErr, ◌⊎◌, Some};
 ghost use Rattle.duct_system.specs.declared.spec.Port.TheVariants.{Given};
 ghost use Rattle.duct_system.specs.declared.system.Kind.TheVariants.{OutOfMemory};
 ghost use Rattle.duct_system.specs.SpecView.{GivesNothing};
@@ -85,10 +85,6 @@ impl ScriptHook {
 }
 
 impl Hook for ScriptHook {
-    ghost use Rattle.std.specs.Prelude.{◌≡◌, ◌⊎◌, Some, None};
-    ghost use Rattle.duct_system.specs.declared.system.Kind.TheVariants.{OutOfMemory};
-    ghost use Rattle.duct_script.specs.Settings.{changed, refusal_of};
-
     ghost allows = { λ hook before after. (refusal_of hook.answer before ≡ None)
         × (after ≡ changed hook.changes.items before) };
 
@@ -99,10 +95,7 @@ impl Hook for ScriptHook {
         note(&self.calls, Call::Hook(self.label));
         let refusal = refusal(&self.answer, spec);
         make_all(self.changes.as_slice(), spec)?;
-        match refusal {
-            Some(fault) => Err(fault),
-            None => Ok(()),
-        }
+        refusal.map_or(Ok(()), Err)
     }
 }
 
@@ -111,15 +104,9 @@ fn refusal(answer: &HookAnswer, spec: &CommandSpec) -> Option<Fault>
     ensures { result ≡ refusal_of answer.now spec.now }
 {
     match answer {
-        HookAnswer::Obey => None,
         HookAnswer::Refuse(fault) => Some(*fault),
-        HookAnswer::RefuseWord(word, fault) => {
-            if contains(spec.words(), word.as_str()) {
-                Some(*fault)
-            } else {
-                None
-            }
-        }
+        HookAnswer::RefuseWord(word, fault) if contains(spec.words(), word) => Some(*fault),
+        HookAnswer::Obey | HookAnswer::RefuseWord(_, _) => None,
     }
 }
 
@@ -142,9 +129,7 @@ fn make_all(changes: &[SpecChange], spec: &mut CommandSpec) -> Result<(), Fault>
     ensures err { IfErr result (λ fault. fault.kind ≡ OutOfMemory) }
 {
     for change in changes {
-        if make(change, spec).is_err() {
-            return Err(Fault::new(Kind::OutOfMemory));
-        }
+        make(change, spec).map_err(|_| Fault::new(Kind::OutOfMemory))?;
     }
     Ok(())
 }

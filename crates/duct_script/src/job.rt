@@ -211,10 +211,7 @@ fn said_again(said: &Said<Arc<Vec<u8>>>) -> Option<Said<Arc<Vec<u8>>>>
 {
     match said {
         Said::Running => Some(Said::Running),
-        Said::Done(bytes) => match Arc::try_clone(bytes) {
-            Ok(bytes) => Some(Said::Done(bytes)),
-            Err(_) => None,
-        },
+        Said::Done(bytes) => Arc::try_clone(bytes).ok().map(Said::Done),
         Said::Fault(fault) => Some(Said::Fault(*fault)),
     }
 }

@@ -9,7 +9,6 @@ mod checker;
 mod child;
 mod clock;
 mod gate;
-mod gated;
 mod hook;
 mod job;
 mod reader;
@@ -25,8 +24,7 @@ pub use checker::{
 };
 pub use child::{ChildScript, PollAnswer, ScriptChild};
 pub use clock::ScriptClock;
-pub use gate::Gate;
-pub use gated::Gated;
+pub use gate::{Gate, Gated};
 pub use hook::{HookAnswer, ScriptHook, SpecChange, Target};
 pub use job::{DrainScript, FeedScript, ScriptDrain, ScriptFeed};
 pub use reader::{ReadStep, ReaderScript, ScriptReader};

@@ -1,5 +1,6 @@
 //! The readers of a scripted system.
 ghost use Rattle.std.specs.Prelude.{◌≡◌, ◌<◌, ◌≤◌, ◌-◌, min, [], ◌++◌, take, drop, length, vec_len, Some, None, IfOk};
+ghost use Rattle.duct_script.specs.Answers.{step_of};
 
 use crate::gate::Gate;
 use std::alloc::Global;
@@ -78,10 +79,6 @@ impl ScriptReader {
     {
         self.number
     }
-}
-
-impl ScriptReader {
-    ghost use Rattle.duct_script.specs.Answers.{step_of};
 
     /// Takes the next step. Returns the most bytes that the read may return, which is at least 1,
     /// or the kind of its error.

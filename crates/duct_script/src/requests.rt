@@ -1,6 +1,6 @@
 //! The count of the requests to a scripted system, and the faults that a test set for some of them.
 ghost use Rattle.std.specs.Prelude.{◌≡◌, ◌<◌, ◌≤◌, ◌++◌, ◌∷◌, [], replicate, IfSome, IfNone, OnOk, OnErr};
-ghost use Rattle.duct_script.specs.Settings.{place_of, fault_for, next_fault, with_request};
+ghost use Rattle.duct_script.specs.Settings.{place_of, fault_for, next_fault, with_request, is_for};
 
 use duct_system::system::Fault;
 use std::alloc::{AllocError, Global};
@@ -31,20 +31,7 @@ impl Sort {
         ensures place { result ≡ place_of self }
         ensures within { result < SORTS }
     {
-        match self {
-            Sort::Environment => 0,
-            Sort::Pipe => 1,
-            Sort::OpenRead => 2,
-            Sort::Create => 3,
-            Sort::Duplicate => 4,
-            Sort::Parent => 5,
-            Sort::Canonicalize => 6,
-            Sort::Spawn => 7,
-            Sort::Feed => 8,
-            Sort::Drain => 9,
-            Sort::Reader => 10,
-            Sort::Close => 11,
-        }
+        self as usize
     }
 
     /// All sorts, in their order.
@@ -82,9 +69,6 @@ struct Refusal {
 }
 
 impl Refusal {
-    ghost use Rattle.std.specs.Prelude.{◌≡◌};
-    ghost use Rattle.duct_script.specs.Settings.{is_for};
-
     /// Returns whether the fault is for the request with the number `among_all` among all requests,
     /// and with the number `among_sort` among those of the sort at `place`.
     fn is_for(&self, place: usize, among_all: u64, among_sort: u64) -> bool

@@ -1,15 +1,20 @@
 //! The scripted system.
-ghost use Rattle.std.specs.Prelude.{◌≡◌, ◌+◌, ◌-◌, ◌^◌, ◌<◌, ◌≤◌, max, length, drop, map, string_bytes, unwrap_or, false, IfSome, IfNone, IfOk, IfErr, OnOk, OnErr, Ok, Err, Some, None, [], ◌∷◌, ◌++◌};
+ghost use Rattle.std.specs.Prelude.{◌≡◌, ◌+◌, ◌-◌, ◌^◌, ◌<◌, ◌≤◌, max, min, length, drop, map, string_bytes, unwrap_or, false, IfSome, IfNone, IfOk, IfErr, OnOk, OnErr, Ok, Err, Some, None, [], ◌∷◌, ◌++◌};
 ghost use Rattle.std.specs.Arc.{arc_value};
 ghost use Rattle.duct_system.specs.declared.system.Kind.TheVariants.{OutOfMemory, Other};
 ghost use Rattle.duct_system.specs.SpecView.{pair_text};
-ghost use Rattle.duct_script.specs.Settings.{canonical_of, with_path, next_fault, with_request, SharesLog};
-ghost use Rattle.duct_script.specs.Told.{IsObeying};
+ghost use Rattle.duct_script.specs.Settings.{canonical_of, with_path, next_fault, with_request, SharesLog, IsUnset};
+ghost use Rattle.duct_script.specs.Told.{IsObeying, child_view, feed_view, drain_view};
 ghost use Rattle.duct_script.specs.declared.child.ChildScript.{ChildScript};
-ghost use Rattle.duct_system.specs.Streams.{stream_of, ends_of};
 ghost use Rattle.duct_system.specs.declared.system.Said.TheVariants.{Done};
 ghost use Rattle.duct_script.specs.Answers.{IsNext, bytes_said};
 ghost use Rattle.duct_script.specs.declared.requests.Sort.TheVariants.{Drain};
+ghost use Rattle.duct_system.specs.Child.{IsUnasked};
+ghost use Rattle.duct_system.specs.Job.{unpolled_job};
+ghost use Rattle.duct_system.specs.EntryView.{Spawn};
+ghost use Rattle.duct_system.specs.Journal.{GivesEnds, IsNew, IsRefused};
+ghost use Rattle.duct_system.specs.Streams.{stream_of, ends_of};
+ghost use Rattle.std.proofs.Common.{lit<};
 
 use crate::answers::Answers;
 use crate::calls::{Call, CallLog, note};
@@ -58,11 +63,6 @@ pub struct Script {
 }
 
 impl Script {
-    ghost use Rattle.duct_system.specs.Child.{IsUnasked};
-    ghost use Rattle.duct_system.specs.Job.{unpolled_job};
-    ghost use Rattle.duct_script.specs.Settings.{IsUnset};
-    ghost use Rattle.duct_script.specs.Told.{child_view, feed_view, drain_view};
-
     /// Returns a system with no variables and no faults set, whose next number is 1. Fails only on
     /// allocation failure.
     pub fn new(alloc: Global) -> Result<Script, AllocError>
@@ -317,10 +317,8 @@ impl Script {
         if let Some(fault) = fault {
             return Err(fault);
         }
-        match self.journal.take_numbers(count) {
-            Some(first) => Ok(first),
-            None => Err(Fault::new(Kind::Other)),
-        }
+        let first = self.journal.take_numbers(count);
+        first.ok_or(Fault::new(Kind::Other))
     }
 
     /// Returns the end of a request's result. If the request failed, the room that was made for the
@@ -372,10 +370,8 @@ impl Script {
         ensures rest { self.new ≡ record self.old { children = self.new.children } }
     {
         let alloc = self.journal.allocator();
-        let script = match self.children.pop_front() {
-            Some(script) => script,
-            None => ChildScript::running(alloc),
-        };
+        let none = ChildScript::running(alloc);
+        let script = self.children.pop_front().unwrap_or(none);
         ScriptChild::new(alloc, number, script, self.shared_calls())
     }
 
@@ -396,10 +392,8 @@ impl Script {
         ensures feeds { self.new.feeds.items ≡ drop 1 self.old.feeds.items }
         ensures rest { self.new ≡ record self.old { feeds = self.new.feeds } }
     {
-        let script = match self.feeds.pop_front() {
-            Some(script) => script,
-            None => FeedScript::none(self.journal.allocator()),
-        };
+        let none = FeedScript::none(self.journal.allocator());
+        let script = self.feeds.pop_front().unwrap_or(none);
         ScriptFeed::new(number, script, self.shared_calls())
     }
 
@@ -428,13 +422,9 @@ impl Script {
         if let Some(fault) = self.ask(Sort::Drain) {
             return Err(fault);
         }
-        let Ok(empty) = Arc::try_clone(&self.empty) else {
-            return Err(Fault::new(Kind::OutOfMemory));
-        };
-        let script = match self.drains.pop_front() {
-            Some(script) => script,
-            None => DrainScript::new(self.journal.allocator()),
-        };
+        let empty = Arc::try_clone(&self.empty).map_err(|_| Fault::new(Kind::OutOfMemory))?;
+        let none = DrainScript::new(self.journal.allocator());
+        let script = self.drains.pop_front().unwrap_or(none);
         Ok(ScriptDrain::new(number, script, empty, self.shared_calls()))
     }
 }
@@ -466,14 +456,6 @@ fn copies_of(alloc: Global, variables: &[(String, String)]) -> Result<Vec<(Strin
 }
 
 impl System for Script {
-    ghost use Rattle.std.specs.Prelude.{◌≤◌, min, length, map, Ok, Err, IfOk, IfErr};
-    ghost use Rattle.duct_system.specs.Child.{IsUnasked};
-    ghost use Rattle.duct_system.specs.Journal.{GivesEnds, IsNew, IsRefused};
-    ghost use Rattle.duct_system.specs.EntryView.{Spawn};
-    ghost use Rattle.duct_system.specs.Streams.{stream_of, ends_of};
-    ghost use Rattle.duct_script.specs.Told.{child_view};
-    ghost use Rattle.std.proofs.Common.{lit<};
-
     type End = ScriptEnd;
 
     type Child = ScriptChild;
@@ -585,17 +567,11 @@ impl System for Script {
         let answer = self.answer(fault, 1);
         self.journal.add(Entry::Spawn(spec, streams, answer));
         self.spent(ends);
-        match answer {
-            Ok(number) => Ok(self.next_child(number)),
-            Err(fault) => Err(fault),
-        }
+        Ok(self.next_child(answer?))
     }
 
     fn start_feed(&mut self, end: ScriptEnd, bytes: Arc<Vec<u8>>) -> Result<ScriptFeed, Fault> {
-        let started = match self.ask(Sort::Feed) {
-            Some(fault) => Err(fault),
-            None => Ok(()),
-        };
+        let started = self.ask(Sort::Feed).map_or(Ok(()), Err);
         self.journal.add(Entry::Feed(end.number, bytes, started));
         started?;
         Ok(self.next_feed(end.number))
@@ -603,10 +579,7 @@ impl System for Script {
 
     fn start_drain(&mut self, end: ScriptEnd) -> Result<ScriptDrain, Fault> {
         let started = self.next_drain(end.number);
-        let answer = match &started {
-            Ok(_) => Ok(()),
-            Err(fault) => Err(*fault),
-        };
+        let answer = started.as_ref().map(|_| ()).map_err(|fault| *fault);
         self.journal.add(Entry::Drain(end.number, answer));
         started
     }
@@ -614,10 +587,8 @@ impl System for Script {
     fn reader(&mut self, end: ScriptEnd) -> ScriptReader {
         let _ = self.ask(Sort::Reader);
         self.journal.add(Entry::Reader(end.number));
-        let script = match self.readers.pop_front() {
-            Some(script) => script,
-            None => ReaderScript::empty(self.journal.allocator()),
-        };
+        let none = ReaderScript::empty(self.journal.allocator());
+        let script = self.readers.pop_front().unwrap_or(none);
         ScriptReader::new(end.number, script)
     }
 

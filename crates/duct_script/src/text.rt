@@ -18,16 +18,16 @@ impl fmt::Display for Words<'_> {
                 }
                 Ok(())
             }
-            Entry::Environment(Err(fault)) => write!(f, "environment {}", Kind(*fault)),
+            Entry::Environment(Err(fault)) => write!(f, "environment {:?}", fault.kind),
             Entry::Pipe(Ok((reader, writer))) => write!(f, "pipe ok {reader} {writer}"),
-            Entry::Pipe(Err(fault)) => write!(f, "pipe {}", Kind(*fault)),
+            Entry::Pipe(Err(fault)) => write!(f, "pipe {:?}", fault.kind),
             Entry::OpenRead(path, answer) => write!(f, "open_read {path} {}", Number(*answer)),
             Entry::Create(path, answer) => write!(f, "create {path} {}", Number(*answer)),
             Entry::Duplicate(lent, answer) => write!(f, "duplicate {lent} {}", Number(*answer)),
             Entry::Parent(side, answer) => write!(f, "parent {side:?} {}", Number(*answer)),
             Entry::Canonicalize(path, Ok(text)) => write!(f, "canonicalize {path} ok {text}"),
             Entry::Canonicalize(path, Err(fault)) => {
-                write!(f, "canonicalize {path} {}", Kind(*fault))
+                write!(f, "canonicalize {path} {:?}", fault.kind)
             }
             Entry::Spawn(spec, io, answer) => {
                 write!(f, "spawn")?;
@@ -39,25 +39,15 @@ impl fmt::Display for Words<'_> {
                 }
                 write!(f, " {}", Number(*answer))
             }
-            Entry::Feed(number, bytes, answer) => {
-                let length = bytes.len();
-                write!(f, "feed {number} of {length} {}", Done(*answer))
+            Entry::Feed(end, bytes, Ok(())) => write!(f, "feed {end} of {} ok", bytes.len()),
+            Entry::Feed(end, bytes, Err(fault)) => {
+                write!(f, "feed {end} of {} {:?}", bytes.len(), fault.kind)
             }
-            Entry::Drain(number, answer) => write!(f, "drain {number} {}", Done(*answer)),
+            Entry::Drain(end, Ok(())) => write!(f, "drain {end} ok"),
+            Entry::Drain(end, Err(fault)) => write!(f, "drain {end} {:?}", fault.kind),
             Entry::Reader(number) => write!(f, "reader {number}"),
             Entry::Close(number) => write!(f, "close {number}"),
         }
-    }
-}
-
-/// The kind of a fault.
-#[derive(Drop)]
-struct Kind(Fault);
-
-impl fmt::Display for Kind {
-    fn fmt<W: fmt::Write>(&self, f: &mut fmt::Formatter<W>) -> fmt::Result {
-        let kind = self.0.kind;
-        write!(f, "{kind:?}")
     }
 }
 
@@ -69,20 +59,7 @@ impl fmt::Display for Number {
     fn fmt<W: fmt::Write>(&self, f: &mut fmt::Formatter<W>) -> fmt::Result {
         match self.0 {
             Ok(number) => write!(f, "ok {number}"),
-            Err(fault) => write!(f, "{}", Kind(fault)),
-        }
-    }
-}
-
-/// A result without a value.
-#[derive(Drop)]
-struct Done(Result<(), Fault>);
-
-impl fmt::Display for Done {
-    fn fmt<W: fmt::Write>(&self, f: &mut fmt::Formatter<W>) -> fmt::Result {
-        match self.0 {
-            Ok(()) => write!(f, "ok"),
-            Err(fault) => write!(f, "{}", Kind(fault)),
+            Err(fault) => write!(f, "{:?}", fault.kind),
         }
     }
 }

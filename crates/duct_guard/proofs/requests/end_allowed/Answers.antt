@@ -1,18 +1,24 @@
-use Rattle.std.proofs.Common.{sym, ◌∙◌}
+use Rattle.std.proofs.Common.{◌≡◌, ◌+◌, ◌&&◌, true, false, nat_le, refl, sym, ◌∙◌}
+use Rattle.duct_guard.specs.GuardView.{asked_of}
 use Rattle.duct_guard.proofs.Guarding.{end_answered, end_forbidden}
-use Rattle.duct_guard.proofs.Holding.{on_ok}
+use Rattle.duct_guard.proofs.requests.end_allowed.Goals.{else-allows-via-then-allows+else-allows_ends, else-allows-via-else-allows}
 use Rattle.duct_guard.proofs.requests.end_allowed.Goals as goal
 
-pub returns-then-may_open-clause-forwards : goal.returns-then-may_open-clause-forwards
-returns-then-may_open-clause-forwards g c =
-    let allowed = rw c.request.ensures at (sym c.may_open.ensures.allowed ∙ c.if-may_open.true) in
+pub returns-then-allows_ends-clause-forwards : goal.returns-then-allows_ends-clause-forwards
+returns-then-allows_ends-clause-forwards g c =
+    let rules = g.P.Policy.rules c.args.policy.now in
+    let asked = rw c.request.ensures at (sym c.allows.ensures ∙ c.if-allows.true) in
+    let allowed : (rules.allows (asked_of c.args.asked.now) && nat_le (c.args.held.ends + 1) rules.limits.ends) ≡ true =
+    rw asked (sym c.allows_ends.ensures.within ∙ c.if-allows_ends.true) in
     end_answered g.S.End.Numbered.number_of c.args.asked.now c.end_asked.result allowed c.end_asked.ensures
 
-pub returns-then-may_open-clause-counts : goal.returns-then-may_open-clause-counts
-returns-then-may_open-clause-counts g c =
-    on_ok c.end_asked.result (c.may_open.ensures.counts c.if-may_open.true)
-
-pub returns-else-may_open-clause-forwards : goal.returns-else-may_open-clause-forwards
-returns-else-may_open-clause-forwards g c =
-    let denied = rw c.request.ensures at (sym c.may_open.ensures.allowed ∙ c.if-may_open.false) in
+pub returns-else-allows-clause-forwards : goal.returns-else-allows-clause-forwards
+returns-else-allows-clause-forwards g c =
+    let rules = g.P.Policy.rules c.args.policy.now in
+    let denied : (rules.allows (asked_of c.args.asked.now) && nat_le (c.args.held.ends + 1) rules.limits.ends) ≡ false =
+    elim c.else-allows.branch [
+      | else-allows-via-then-allows+else-allows_ends w ↦
+          rw (rw c.request.ensures at (sym c.allows.ensures ∙ w.if-allows.true)) (sym w.allows_ends.ensures.within ∙ w.if-allows_ends.false)
+      | else-allows-via-else-allows w ↦ rw (rw c.request.ensures at (sym c.allows.ensures ∙ w.if-allows.false)) refl
+    ] in
     end_forbidden g.S.End.Numbered.number_of c.args.asked.now _ denied c.forbidden.ensures
