@@ -1,5 +1,5 @@
 -- What a node comes to, by what is found inside it.
-use Rattle.std.proofs.Common.{◌≡◌, ◌∙◌, ℕ, ap, length, sym}
+use Rattle.std.proofs.Common.{◌≡◌, ◌∙◌, ℕ, length, sym}
 use Rattle.std.proofs.lemmas.List.{append-nil}
 use Rattle.duct_start.specs.Plan.{Plan, place_for, with_closing, with_item, with_opening}
 use Rattle.duct_start.specs.Row.{Row, row}

@@ -1,24 +1,14 @@
--- The tasks that are left for the plan of a tree, and what a node sets.
-use Rattle.std.specs.Prelude.{ℕ, List, [], ◌∷◌, ◌+◌, ◌++◌}
-use Rattle.std.specs.Option.{option_or}
+-- The tasks that are left for the plan of a tree.
+use Rattle.std.specs.Prelude.{ℕ, List, [], ◌∷◌, ◌+◌}
 use Rattle.duct_run.proofs.PlanInward.{plan_inward}
 use Rattle.duct_start.specs.Plan.{Plan, with_closing}
-use Rattle.duct_start.specs.Step.{NodeStep, closing_of}
-use Rattle.duct_start.specs.Surroundings.{Surroundings}
+use Rattle.duct_start.specs.Step.{closing_of}
 use Rattle.duct_start.specs.TreeView.{TreeView, command, pipe, around}
 use Rattle.duct_tree.specs.EffectView.{opening_view}
 use Rattle.duct_tree.specs.NodeView.{node_view}
 use Rattle.duct_plan.specs.PlanView.{found_of}
 use Rattle.duct_plan.specs.declared.requests.Task.{Task}
 use Rattle.duct_plan.specs.declared.requests.Task.TheVariants.{Visit, Close}
-
--- what is found inside a node that sets this, where the streams go as outside it
-abbrev pub with_setting : {E H : Type 0} → NodeStep E H → Surroundings E H → Surroundings E H
-with_setting node found = record found {
-  folder = option_or node.folder found.folder;
-  changes = node.changes ++ found.changes;
-  hooks = found.hooks ++ node.hooks;
-}
 
 -- the plan after one task
 abbrev pub after_task : {E H : Type 0} → Task E H → Plan E H → Plan E H

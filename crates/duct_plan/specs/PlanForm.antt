@@ -79,13 +79,6 @@ hooks_form (hook ∷ hooks) = of_place (codes ", hooks ") (length (hook ∷ hook
 unfoldable pub stream_form : {E : Type 0} → List ℕ → Stream → Target E → Form
 stream_form name stream target = joined (plain name ∷ target_form stream target ∷ [])
 
--- where the streams of a command go
-unfoldable pub streams_form : {E H : Type 0} → Surroundings E H → Form
-streams_form found =
-    joined (stream_form (codes ", stdin ") In found.input
-    ∷ stream_form (codes ", stdout ") Out found.output
-    ∷ stream_form (codes ", stderr ") Err found.error ∷ [])
-
 -- what is started: a program, its arguments, its folder and the changes of its variables, the
 -- nearest first
 unfoldable pub command_form : {E H : Type 0} → Surroundings E H → List (List ℕ) → Form
@@ -96,8 +89,10 @@ command_form found words =
 -- the spawn of a command
 unfoldable pub spawn_form : {E H : Type 0} → Surroundings E H → List (List ℕ) → Form
 spawn_form found words =
-    joined (plain (codes "spawn of ") ∷ command_form found words ∷ streams_form found
-    ∷ hooks_form found.hooks ∷ [])
+    joined (plain (codes "spawn of ") ∷ command_form found words
+    ∷ stream_form (codes ", stdin ") In found.input
+    ∷ stream_form (codes ", stdout ") Out found.output
+    ∷ stream_form (codes ", stderr ") Err found.error ∷ hooks_form found.hooks ∷ [])
 
 -- one request
 unfoldable pub item_form : {E H : Type 0} → Item E H → Form

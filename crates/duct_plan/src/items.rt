@@ -1,17 +1,15 @@
 //! The items of a plan, each a request of a start, the plan itself, and what a command finds on its
 //! path to the root: its folder, the changes of variables, where its streams go, and its hooks.
-ghost use Rattle.std.specs.Prelude.{◌≡◌, IfOk};
+ghost use Rattle.std.specs.Prelude.{◌≡◌, IfOk, OnOk};
 ghost use Rattle.duct_system.specs.declared.spec.Stream.TheVariants.{In};
 ghost use Rattle.duct_run.proofs.PlanInward.{surroundings_within};
 ghost use Rattle.duct_start.specs.Lookup.{resolved_turn};
-ghost use Rattle.duct_start.specs.Row.{says_change};
 ghost use Rattle.duct_start.specs.Step as node;
-ghost use Rattle.duct_start.specs.Step.{step_if_setting, step_of_row, step_of_setting};
+ghost use Rattle.duct_start.specs.Step.{step_if_setting, step_of_row};
 ghost use Rattle.duct_start.specs.Surroundings as outwards;
 ghost use Rattle.duct_start.specs.Surroundings.{root_surroundings};
 ghost use Rattle.duct_tree.specs.EffectView.{effect_view, input_route_view, opening_view, output_route_view, says_view};
-ghost use Rattle.duct_plan.specs.Inside.{with_setting};
-ghost use Rattle.duct_plan.specs.PlanView.{change_of, found_of, target_of};
+ghost use Rattle.duct_plan.specs.PlanView.{found_of, target_of};
 
 use duct::{Side, Stream};
 use duct_base::names::EnvNameString;
@@ -130,42 +128,20 @@ impl<'t, E, H> Surroundings<'t, E, H> {
         })
     }
 
-    /// Returns what is found where stdin goes to this target.
-    pub(crate) fn with_input(self, input: Target<'t, E>) -> Surroundings<'t, E, H>
-        ensures { found_of result ≡ record (found_of self.entry) { input = target_of input.entry } }
-    {
-        Surroundings { input, ..self }
-    }
-
-    /// Returns what is found where stdout goes to this target.
-    pub(crate) fn with_output(self, output: Target<'t, E>) -> Surroundings<'t, E, H>
-        ensures { found_of result
-            ≡ record (found_of self.entry) { output = target_of output.entry } }
-    {
-        Surroundings { output, ..self }
-    }
-
-    /// Returns what is found inside a node at this place that does this. Fails only on allocation
+    /// Goes on to what is found inside a node at this place that does this. Fails only on allocation
     /// failure.
-    pub(crate) fn inside(
-        self,
-        effect: Effect<'t, E, H>,
-        place: usize,
-    ) -> Result<Surroundings<'t, E, H>, AllocError>
-        ensures { IfOk result (λ found. found_of found
-            ≡ surroundings_within (step_of_row (effect_view effect.entry)) place
-            (found_of self.entry)) }
+    pub(crate) fn enter(&mut self, effect: Effect<'t, E, H>, place: usize) -> Result<(), AllocError>
+        ensures { OnOk result (found_of self.new
+            ≡ surroundings_within (step_of_row (effect_view effect.entry)) place (found_of self.old)) }
     {
         let input = self.input_inside(effect.input, effect.opening, place);
         let output = self.output_inside(effect.output, effect.opening, place);
         let error = self.output_inside(effect.error, effect.opening, place);
-        let found = self.with_setting(effect.setting)?;
-        Ok(Surroundings {
-            input,
-            output,
-            error,
-            ..found
-        })
+        self.set(effect.setting)?;
+        self.input = input;
+        self.output = output;
+        self.error = error;
+        Ok(())
     }
 
     // Returns where stdin goes that takes this route inside a node at this place.
@@ -207,43 +183,25 @@ impl<'t, E, H> Surroundings<'t, E, H> {
         }
     }
 
-    // Returns what is found inside a node that sets this, if it sets something.
-    fn with_setting(
-        self,
-        setting: Option<Setting<'t, E, H>>,
-    ) -> Result<Surroundings<'t, E, H>, AllocError>
-        ensures { IfOk result (λ found. found_of found
-            ≡ with_setting (step_if_setting (says_view setting.entry)) (found_of self.entry)) }
+    // Goes on to what is found inside a node that only sets this, if anything; at no place it does
+    // something else.
+    fn set(&mut self, setting: Option<Setting<'t, E, H>>) -> Result<(), AllocError>
+        ensures { OnOk result (found_of self.new
+            ≡ surroundings_within (step_if_setting (says_view setting.entry)) 0
+            (found_of self.old)) }
     {
-        match setting {
-            None => Ok(self),
-            Some(Setting::Dir(path)) => Ok(Surroundings {
-                folder: Some(path),
-                ..self
-            }),
-            Some(Setting::Env(name, value)) => {
-                self.with_change(VariableChange::Sets(name.as_str(), value))
+        let change = match setting {
+            None => return Ok(()),
+            Some(Setting::Dir(path)) => {
+                self.folder = Some(path);
+                return Ok(());
             }
-            Some(Setting::EnvRemove(name)) => {
-                self.with_change(VariableChange::Removes(name.as_str()))
-            }
-            Some(Setting::FullEnv(vars)) => self.with_change(VariableChange::Replaces(vars)),
-            Some(Setting::BeforeSpawn(hook, ends)) => {
-                let mut found = self;
-                found.hooks.push((hook, ends))?;
-                Ok(found)
-            }
-        }
-    }
-
-    // Returns what is found inside a node that changes the variables.
-    fn with_change(self, change: VariableChange<'t>) -> Result<Surroundings<'t, E, H>, AllocError>
-        ensures { IfOk result (λ found. found_of found ≡ with_setting
-            (step_of_setting (says_change (change_of change.entry))) (found_of self.entry)) }
-    {
-        let mut found = self;
-        found.changes.insert(0, change)?;
-        Ok(found)
+            Some(Setting::BeforeSpawn(hook, ends)) => return Ok(self.hooks.push((hook, ends))?),
+            Some(Setting::Env(name, value)) => VariableChange::Sets(name.as_str(), value),
+            Some(Setting::EnvRemove(name)) => VariableChange::Removes(name.as_str()),
+            Some(Setting::FullEnv(vars)) => VariableChange::Replaces(vars),
+        };
+        Ok(self.changes.insert(0, change)?)
     }
 }
 

@@ -1,8 +1,8 @@
 //! The requests of a start, computed from the tree alone.
 ghost use Rattle.std.specs.Prelude.{◌≡◌, ◌+◌, ◌<◌, IfOk, OnOk, map, string_bytes};
 ghost use Rattle.duct_run.proofs.PlanInward.{plan_inward};
-ghost use Rattle.duct_start.specs.Plan.{capture_place, with_item, with_capture, with_opening, place_for, with_closing, program_of, is_canonical, with_command, initial_plan, with_drain, with_reader, plan_of, plan_of_reader};
-ghost use Rattle.duct_start.specs.Step.{opening_of, closing_of};
+ghost use Rattle.duct_start.specs.Plan.{with_item, with_capture, with_opening, place_for, with_closing, program_of, is_canonical, with_command, initial_plan, with_drain, with_reader, plan_of, plan_of_reader};
+ghost use Rattle.duct_start.specs.Step.{Captures, closing_of, opening_of};
 ghost use Rattle.duct_tree.specs.EffectView.{opening_view};
 ghost use Rattle.duct_tree.specs.NodeView.{node_view};
 ghost use Rattle.duct.specs.TreeView.{tree_view};
@@ -23,15 +23,12 @@ pub fn plan<'t, E: Drop, H: Drop>(
 ) -> Result<Plan<'t, E, H>, AllocError>
     ensures { IfOk result (λ plan. plan_view plan ≡ plan_of (tree_view expression.now)) }
 {
-    let first = initial_plan(alloc)?;
-    let plan = plan_of_subtree(
-        alloc,
-        Surroundings::at_root(alloc),
-        expression.root(),
-        first,
-    )?;
+    let mut plan = Plan::initial(alloc)?;
+    plan.add_tree(alloc, Surroundings::at_root(alloc), expression.root())?;
     let (out, err) = (plan.out, plan.err);
-    with_drain(err, with_drain(out, plan)?)
+    plan.add_drain(out)?;
+    plan.add_drain(err)?;
+    Ok(plan)
 }
 
 /// Returns the plan of a reader's start: that of the tree inside one capture of stdout. The reader
@@ -42,98 +39,15 @@ pub fn plan_of_reader<'t, E: Drop, H: Drop>(
 ) -> Result<Plan<'t, E, H>, AllocError>
     ensures { IfOk result (λ plan. plan_view plan ≡ plan_of_reader (tree_view expression.now)) }
 {
-    let first = initial_plan(alloc)?;
-    let place = first.items.len();
-    let plan = with_capture(Side::Out, first)?;
-    let found = Surroundings::at_root(alloc).with_output(Target::WriterAt(place));
-    let plan = plan_of_subtree(alloc, found, expression.root(), plan)?;
+    let mut plan = Plan::initial(alloc)?;
+    let place = plan.capture(Side::Out)?;
+    let mut found = Surroundings::at_root(alloc);
+    found.output = Target::WriterAt(place);
+    plan.add_tree(alloc, found, expression.root())?;
     let (out, err) = (plan.out, plan.err);
-    with_reader(out, with_drain(err, plan)?)
-}
-
-/// Returns the plan before its tree: its first request is for the environment.
-fn initial_plan<'t, E: Drop, H: Drop>(alloc: Global) -> Result<Plan<'t, E, H>, AllocError>
-    ensures { IfOk result (λ plan. plan_view plan ≡ initial_plan) }
-{
-    let mut items = Vec::new(alloc);
-    items.push(Item::Environment)?;
-    Ok(Plan {
-        items,
-        out: None,
-        err: None,
-    })
-}
-
-/// Adds one more item at the end of the plan.
-fn with_item<'t, E: Drop, H: Drop>(
-    item: Item<'t, E, H>,
-    plan: Plan<'t, E, H>,
-) -> Result<Plan<'t, E, H>, AllocError>
-    ensures { IfOk result
-        (λ more. plan_view more ≡ with_item (item_of item.entry) (plan_view plan.entry)) }
-{
-    let Plan {
-        mut items,
-        out,
-        err,
-    } = plan;
-    items.push(item)?;
-    Ok(Plan { items, out, err })
-}
-
-/// Adds the request for the capture pipe of this stream to the plan, if that isn't open yet.
-fn with_capture<'t, E: Drop, H: Drop>(
-    side: Side,
-    plan: Plan<'t, E, H>,
-) -> Result<Plan<'t, E, H>, AllocError>
-    ensures { IfOk result (λ more. plan_view more ≡ with_capture side (plan_view plan.entry)) }
-{
-    if pipe_on(side, &plan).is_some() {
-        return Ok(plan);
-    }
-    let place = plan.items.len();
-    let mut more = with_item(Item::Pipe, plan)?;
-    match side {
-        Side::Out => more.out = Some(place),
-        Side::Err => more.err = Some(place),
-    }
-    Ok(more)
-}
-
-/// Returns the place of the capture pipe of this stream, if that is open.
-fn pipe_on<E, H>(side: Side, plan: &Plan<'_, E, H>) -> Option<usize>
-    ensures { result ≡ capture_place side (plan_view plan.now) }
-{
-    match side {
-        Side::Out => plan.out,
-        Side::Err => plan.err,
-    }
-}
-
-/// Adds the worker of a capture pipe to the plan, if that pipe is open.
-fn with_drain<'t, E: Drop, H: Drop>(
-    pipe: Option<usize>,
-    plan: Plan<'t, E, H>,
-) -> Result<Plan<'t, E, H>, AllocError>
-    ensures { IfOk result (λ more. plan_view more ≡ with_drain pipe (plan_view plan.entry)) }
-{
-    match pipe {
-        None => Ok(plan),
-        Some(place) => with_item(Item::Drain(place), plan),
-    }
-}
-
-/// Adds the reader of a capture pipe to the plan, if that pipe is open.
-fn with_reader<'t, E: Drop, H: Drop>(
-    pipe: Option<usize>,
-    plan: Plan<'t, E, H>,
-) -> Result<Plan<'t, E, H>, AllocError>
-    ensures { IfOk result (λ more. plan_view more ≡ with_reader pipe (plan_view plan.entry)) }
-{
-    match pipe {
-        None => Ok(plan),
-        Some(place) => with_item(Item::Reader(place), plan),
-    }
+    plan.add_drain(err)?;
+    plan.add_reader(out)?;
+    Ok(plan)
 }
 
 /// Returns the program of these words: the first word, or an empty text if there are none.
@@ -160,132 +74,170 @@ enum Task<'t, E, H> {
     Close(Opening<'t>, usize),
 }
 
-/// Adds the requests of a tree to the plan. Its commands find this, and what the tree's own nodes
-/// set. A node's first request comes before those of its inner expression, and the left side of a
-/// pipe before the right.
-#[tactic(auto, using(crate::proofs::Planned::after_last, crate::proofs::Planned::left_with))]
-fn plan_of_subtree<'t, E: Drop, H: Drop>(
-    alloc: Global,
-    found: Surroundings<'t, E, H>,
-    node: &'t Node<E, H>,
-    plan: Plan<'t, E, H>,
-) -> Result<Plan<'t, E, H>, AllocError>
-    ensures { IfOk result
-        (λ after. plan_view after
-        ≡ plan_inward (found_of found.entry) (node_view node.now) (plan_view plan.entry)) }
-{
-    let mut tasks = Vec::new(alloc);
-    tasks.push(Task::Visit(found, node))?;
-    let mut plan = plan;
-    while let Some(task) = tasks.pop() {
-        plan = match task {
-            Task::Visit(found, node) => with_visited(&mut tasks, alloc, found, node, plan)?,
-            Task::Close(opening, place) => with_closing(opening, place, plan)?,
-        };
+impl<'t, E: Drop, H: Drop> Plan<'t, E, H> {
+    // Returns the plan before its tree: its first request is for the environment.
+    fn initial(alloc: Global) -> Result<Plan<'t, E, H>, AllocError>
+        ensures { IfOk result (λ plan. plan_view plan ≡ initial_plan) }
+    {
+        let mut items = Vec::new(alloc);
+        items.push(Item::Environment)?;
+        Ok(Plan {
+            items,
+            out: None,
+            err: None,
+        })
     }
-    Ok(plan)
-}
 
-/// Adds the first request of a tree to the plan, and to the tasks what is left to do for the tree.
-#[tactic(auto, using(crate::proofs::Planned::after_last, crate::proofs::Planned::left_with))]
-fn with_visited<'t, E: Drop, H: Drop>(
-    tasks: &mut Vec<Task<'t, E, H>>,
-    alloc: Global,
-    found: Surroundings<'t, E, H>,
-    node: &'t Node<E, H>,
-    plan: Plan<'t, E, H>,
-) -> Result<Plan<'t, E, H>, AllocError>
-    ensures plan { IfOk result
-        (λ after. after_tasks tasks.new.items (plan_view after)
-        ≡ after_tasks tasks.old.items
-        (plan_inward (found_of found.entry) (node_view node.now) (plan_view plan.entry))) }
-    ensures fewer { OnOk result
-        (tasks_left tasks.new.items < tasks_left tasks.old.items + tasks_of_tree
-        (node_view node.now)) }
-{
-    match node {
-        Node::Cmd(words) => with_command(found, words.as_slice(), plan),
-        Node::Pipe(left, right) => {
-            let place = plan.items.len();
-            let reading = found.copied(alloc)?.with_input(Target::ReaderAt(place));
-            tasks.push(Task::Visit(reading, right))?;
-            let writing = found.with_output(Target::WriterAt(place));
-            tasks.push(Task::Visit(writing, left))?;
-            with_item(Item::Pipe, plan)
-        }
-        Node::Io(modifier, inner) => {
-            let effect = effect_of(modifier);
-            let place = place_for(effect.opening, &plan);
-            tasks.push(Task::Close(effect.opening, place))?;
-            tasks.push(Task::Visit(found.inside(effect, place)?, inner))?;
-            with_opening(effect.opening, plan)
+    // Adds one more item at the end.
+    fn add(&mut self, item: Item<'t, E, H>) -> Result<(), AllocError>
+        ensures { OnOk result
+            (plan_view self.new ≡ with_item (item_of item.entry) (plan_view self.old)) }
+    {
+        Ok(self.items.push(item)?)
+    }
+
+    // Adds the worker of a capture pipe, if that pipe is open.
+    fn add_drain(&mut self, pipe: Option<usize>) -> Result<(), AllocError>
+        ensures { OnOk result (plan_view self.new ≡ with_drain pipe (plan_view self.old)) }
+    {
+        match pipe {
+            None => Ok(()),
+            Some(place) => self.add(Item::Drain(place)),
         }
     }
-}
 
-/// Adds to the plan a command that finds this: first the request for its program's canonical path,
-/// if it is needed, and then its spawn.
-fn with_command<'t, E: Drop, H: Drop>(
-    found: Surroundings<'t, E, H>,
-    words: &'t [String],
-    plan: Plan<'t, E, H>,
-) -> Result<Plan<'t, E, H>, AllocError>
-    ensures { IfOk result
-        (λ after. plan_view after
-        ≡ with_command (found_of found.entry) (map string_bytes words.now) (plan_view plan.entry)) }
-{
-    let plan = if is_canonical(&found, words) {
-        with_item(Item::Canonicalize(program_of(words)), plan)?
-    } else {
-        plan
-    };
-    with_item(Item::Spawn(found, words), plan)
-}
-
-/// Adds to the plan the request that a node which opens this makes before those of its inner
-/// expression.
-fn with_opening<'t, E: Drop, H: Drop>(
-    opening: Opening<'t>,
-    plan: Plan<'t, E, H>,
-) -> Result<Plan<'t, E, H>, AllocError>
-    ensures { IfOk result
-        (λ more. plan_view more
-        ≡ with_opening (opening_of (opening_view opening.entry)) (plan_view plan.entry)) }
-{
-    match opening {
-        Opening::Nothing => Ok(plan),
-        Opening::Input(_) => with_item(Item::Pipe, plan),
-        Opening::Read(path) => with_item(Item::OpenRead(path), plan),
-        Opening::Create(path) => with_item(Item::Create(path), plan),
-        Opening::Capture(side) => with_capture(side, plan),
+    // Adds the reader of a capture pipe, if that pipe is open.
+    fn add_reader(&mut self, pipe: Option<usize>) -> Result<(), AllocError>
+        ensures { OnOk result (plan_view self.new ≡ with_reader pipe (plan_view self.old)) }
+    {
+        match pipe {
+            None => Ok(()),
+            Some(place) => self.add(Item::Reader(place)),
+        }
     }
-}
 
-/// Returns the place of the node that comes next and opens this: that of the item that it adds or,
-/// for a capture, that of its stream's one pipe.
-fn place_for<E, H>(opening: Opening<'_>, plan: &Plan<'_, E, H>) -> usize
-    ensures { result ≡ place_for (opening_of (opening_view opening.entry)) (plan_view plan.now) }
-{
-    let next = plan.items.len();
-    match opening {
-        Opening::Nothing | Opening::Input(_) | Opening::Read(_) | Opening::Create(_) => next,
-        Opening::Capture(side) => pipe_on(side, plan).unwrap_or(next),
+    // Adds the requests of a tree. Its commands find this, and what the tree's own nodes set. A
+    // node's first request comes before those of its inner expression, and the left side of a pipe
+    // before the right.
+    #[tactic(auto, using(crate::proofs::Planned::after_last, crate::proofs::Planned::left_with))]
+    fn add_tree(
+        &mut self,
+        alloc: Global,
+        found: Surroundings<'t, E, H>,
+        node: &'t Node<E, H>,
+    ) -> Result<(), AllocError>
+        ensures { OnOk result (plan_view self.new
+            ≡ plan_inward (found_of found.entry) (node_view node.now) (plan_view self.old)) }
+    {
+        let mut tasks = Vec::new(alloc);
+        tasks.push(Task::Visit(found, node))?;
+        while let Some(task) = tasks.pop() {
+            match task {
+                Task::Visit(found, node) => self.visit(alloc, &mut tasks, found, node)?,
+                Task::Close(opening, place) => self.close(opening, place)?,
+            }
+        }
+        Ok(())
     }
-}
 
-/// Adds to the plan the request that a node at this place which opens this makes after those of its
-/// inner expression: for an input, the worker that feeds the bytes to its pipe.
-fn with_closing<'t, E: Drop, H: Drop>(
-    opening: Opening<'t>,
-    place: usize,
-    plan: Plan<'t, E, H>,
-) -> Result<Plan<'t, E, H>, AllocError>
-    ensures { IfOk result
-        (λ more. plan_view more
-        ≡ with_closing (closing_of (opening_view opening.entry) place) (plan_view plan.entry)) }
-{
-    match opening {
-        Opening::Nothing | Opening::Read(_) | Opening::Create(_) | Opening::Capture(_) => Ok(plan),
-        Opening::Input(bytes) => with_item(Item::Feed(place, bytes.as_slice()), plan),
+    // Adds the first request of a tree, and to the tasks what is left to do for the tree.
+    #[tactic(auto, using(crate::proofs::Planned::after_last, crate::proofs::Planned::left_with))]
+    fn visit(
+        &mut self,
+        alloc: Global,
+        tasks: &mut Vec<Task<'t, E, H>>,
+        mut found: Surroundings<'t, E, H>,
+        node: &'t Node<E, H>,
+    ) -> Result<(), AllocError>
+        ensures plan { OnOk result (after_tasks tasks.new.items (plan_view self.new)
+            ≡ after_tasks tasks.old.items
+            (plan_inward (found_of found.entry) (node_view node.now) (plan_view self.old))) }
+        ensures fewer { OnOk result (tasks_left tasks.new.items
+            < tasks_left tasks.old.items + tasks_of_tree (node_view node.now)) }
+    {
+        match node {
+            Node::Cmd(words) => self.add_command(found, words.as_slice()),
+            Node::Pipe(left, right) => {
+                let place = self.items.len();
+                let mut reading = found.copied(alloc)?;
+                reading.input = Target::ReaderAt(place);
+                tasks.push(Task::Visit(reading, right))?;
+                found.output = Target::WriterAt(place);
+                tasks.push(Task::Visit(found, left))?;
+                self.add(Item::Pipe)
+            }
+            Node::Io(modifier, inner) => {
+                let effect = effect_of(modifier);
+                let place = self.open(effect.opening)?;
+                tasks.push(Task::Close(effect.opening, place))?;
+                found.enter(effect, place)?;
+                tasks.push(Task::Visit(found, inner))?;
+                Ok(())
+            }
+        }
+    }
+
+    // Adds a command that finds this: first the request for its program's canonical path, if it is
+    // needed, and then its spawn.
+    fn add_command(
+        &mut self,
+        found: Surroundings<'t, E, H>,
+        words: &'t [String],
+    ) -> Result<(), AllocError>
+        ensures { OnOk result (plan_view self.new
+            ≡ with_command (found_of found.entry) (map string_bytes words.now) (plan_view self.old)) }
+    {
+        if is_canonical(&found, words) {
+            self.add(Item::Canonicalize(program_of(words)))?;
+        }
+        self.add(Item::Spawn(found, words))
+    }
+
+    // Adds the request that a node which opens this makes before those of its inner expression.
+    // Returns the node's place: that of the item or, for a capture, that of its stream's one pipe.
+    fn open(&mut self, opening: Opening<'t>) -> Result<usize, AllocError>
+        ensures plan { OnOk result (plan_view self.new
+            ≡ with_opening (opening_of (opening_view opening.entry)) (plan_view self.old)) }
+        ensures place { IfOk result (λ place. place
+            ≡ place_for (opening_of (opening_view opening.entry)) (plan_view self.old)) }
+    {
+        let next = self.items.len();
+        match opening {
+            Opening::Nothing => {}
+            Opening::Input(_) => self.add(Item::Pipe)?,
+            Opening::Read(path) => self.add(Item::OpenRead(path))?,
+            Opening::Create(path) => self.add(Item::Create(path))?,
+            Opening::Capture(side) => return self.capture(side),
+        }
+        Ok(next)
+    }
+
+    // Adds the request for the capture pipe of this stream, if that isn't open yet. Returns its
+    // place.
+    fn capture(&mut self, side: Side) -> Result<usize, AllocError>
+        ensures plan { OnOk result (plan_view self.new ≡ with_capture side (plan_view self.old)) }
+        ensures place { IfOk result
+            (λ place. place ≡ place_for (Captures side) (plan_view self.old)) }
+    {
+        let next = self.items.len();
+        match (side, self.out, self.err) {
+            (Side::Out, Some(place), _) | (Side::Err, _, Some(place)) => return Ok(place),
+            (Side::Out, None, _) => self.out = Some(next),
+            (Side::Err, _, None) => self.err = Some(next),
+        }
+        self.items.push(Item::Pipe)?;
+        Ok(next)
+    }
+
+    // Adds the request that a node at this place which opens this makes after those of its inner
+    // expression: for an input, the worker that feeds the bytes to its pipe.
+    fn close(&mut self, opening: Opening<'t>, place: usize) -> Result<(), AllocError>
+        ensures { OnOk result (plan_view self.new
+            ≡ with_closing (closing_of (opening_view opening.entry) place) (plan_view self.old)) }
+    {
+        match opening {
+            Opening::Input(bytes) => self.add(Item::Feed(place, bytes.as_slice())),
+            _ => Ok(()),
+        }
     }
 }

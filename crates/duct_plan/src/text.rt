@@ -5,7 +5,7 @@ ghost use Rattle.std.specs.Option.{option_copied};
 ghost use Rattle.duct_system.specs.SpecView.{var_view};
 ghost use Rattle.duct_tree.specs.Text.{printed};
 ghost use Rattle.duct_plan.specs.PlanView.{change_of, found_of, item_of, target_of};
-ghost use Rattle.duct_plan.specs.PlanForm.{argument_form, change_form, command_form, each_form, folder_form, hooks_form, item_form, line_form, parents_text, program_form, spawn_form, stream_form, streams_form, variable_form};
+ghost use Rattle.duct_plan.specs.PlanForm.{argument_form, change_form, command_form, each_form, folder_form, hooks_form, item_form, line_form, parents_text, program_form, spawn_form, stream_form, variable_form};
 
 use crate::items::{Item, Plan, Surroundings, Target, VariableChange};
 use crate::requests::{is_canonical, program_of};
@@ -79,7 +79,9 @@ impl<E, H> Surroundings<'_, E, H> {
     {
         f.write_str("spawn of ")?;
         self.write_command(words, f)?;
-        self.write_streams(f)?;
+        write_stream(", stdin ", Stream::In, self.input, f)?;
+        write_stream(", stdout ", Stream::Out, self.output, f)?;
+        write_stream(", stderr ", Stream::Err, self.error, f)?;
         write_hooks(self.hooks.as_slice(), f)
     }
 
@@ -93,17 +95,6 @@ impl<E, H> Surroundings<'_, E, H> {
         write_arguments(words.get(1..).unwrap_or(&[]), f)?;
         write_folder(self.folder, f)?;
         write_changes(self.changes.as_slice(), f)
-    }
-
-    // Writes where the streams of a command go.
-    #[tactic(auto, unfolding(crate::specs::PlanForm::streams_form))]
-    fn write_streams<W: Write>(&self, f: &mut Formatter<W>) -> fmt::Result
-        ensures { DisplaysOnOk W.write_str_gives f.old result
-            (printed (streams_form (found_of self.now))) f.new }
-    {
-        write_stream(", stdin ", Stream::In, self.input, f)?;
-        write_stream(", stdout ", Stream::Out, self.output, f)?;
-        write_stream(", stderr ", Stream::Err, self.error, f)
     }
 
     // Writes a program, or a question mark where its canonical path is requested first.
