@@ -1,5 +1,5 @@
 //! Work over the real machine for scripts. Without arguments the program runs what the lines of
-//! standard input say (`lines`), for `bin/test-cases`, `bin/soak` and `bin/shell-words`; with
+//! standard input say (`lines`), for `bin/test`, `bin/soak` and `bin/shell-words`; with
 //! arguments it reads a line under a policy (`guarded`), for `bin/guarded`.
 #![tactic(auto)]
 
