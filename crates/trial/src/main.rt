@@ -1,6 +1,6 @@
 //! Work over the real machine for scripts. Without arguments the program runs what the lines of
 //! standard input say (`lines`), for `bin/test`, `bin/soak` and `bin/shell-words`; with
-//! arguments it reads a line under a policy (`guarded`), for `bin/guarded`.
+//! arguments it reads a line under a policy (`guarded`), for `bin/soak`.
 #![tactic(auto)]
 
 mod guarded;
