@@ -1,10 +1,10 @@
 -- What contracts see of a replay and of what it returns, and how a request changes it.
-use Rattle.std.specs.Prelude.{ℕ, Bool, true, false, Ok, Err, Some, None, ◌≡◌, ◌≢◌, ◌⊎◌, ◌+◌, ◌<◌, ◌≤◌, ◌^◌, option_copied, option_map, Option, Result, IsErrAnd, List, [], ◌∷◌, ◌++◌, ◌-◌, length, take, slice_get, min, drop, if◌then◌else◌}
+use Rattle.std.specs.Prelude.{ℕ, Bool, true, false, Ok, Err, Some, None, ◌≡◌, ◌≢◌, ◌⊎◌, ◌+◌, ◌<◌, ◌≤◌, ◌^◌, option_copied, option_map, Option, Result, IfErr, IfOk, IsErrAnd, List, [], ◌∷◌, ◌++◌, ◌-◌, length, take, slice_get, min, drop, if◌then◌else◌}
 use Rattle.std.specs.Borrow.{Bor}
-use Rattle.duct_system.specs.EntryView.{EntryView, entry_view}
+use Rattle.duct_system.specs.EntryView.{EntryView, answer_of, entry_view}
 use Rattle.duct_system.specs.declared.system.Entry.{Entry}
 use Rattle.duct_system.specs.declared.system.Fault.{Fault}
-use Rattle.duct_system.specs.Journal.{JournalView}
+use Rattle.duct_system.specs.Journal.{GetsEnd, IsRefused, JournalView}
 use Rattle.duct_replay.specs.RecordingView.{RecordingView, Shared, bytes_of, had, no_memory, unrecorded}
 use Rattle.std.specs.IoError.{error_kind}
 use Rattle.std.specs.declared.io.Error.{Error}
@@ -123,6 +123,14 @@ abbrev pub MayReplay : {T : Type 0} → (Result T Fault → EntryView) → (Resu
     → ReplayView → Result T Fault → ReplayView → Type 0
 MayReplay entry fits old answer new =
     Replays entry fits old answer new ⊎ ((answer ≡ Err no_memory) × Steps old new)
+
+-- a request with such entries does that, and returned this end or failed with this fault
+pub record ReplaysEnd {E : Type 0} (number_of : E → ℕ) (entry : Result ℕ Fault → EntryView)
+    (old : ReplayView) (made : Result E Fault) (new : ReplayView) : Type 0 where
+  pub ok : IfOk made (λ end.
+      GetsEnd (entry (Ok (number_of end))) (number_of end) old.journal new.journal)
+  pub err : IfErr made (λ fault. IsRefused (entry (Err fault)) 0 fault old.journal new.journal)
+  pub replayed : MayReplay entry (FitsNumber old.journal.next) old (answer_of number_of made) new
 
 -- the entries before this place are the recorded ones, and the entry there is not
 pub record DiffersAt (place : ℕ) (recorded asked : List EntryView) : Type 0 where

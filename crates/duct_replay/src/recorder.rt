@@ -1,6 +1,10 @@
 //! A system that is recorded.
-ghost use Rattle.std.specs.Prelude.{◌≡◌, IfOk};
+ghost use Rattle.std.specs.Prelude.{◌≡◌, IfOk, ◌≤◌, min, length, map, Ok, Err, IfErr};
 ghost use Rattle.duct_replay.specs.RecordingView.{NotesOnly, RecordingView};
+ghost use Rattle.duct_system.specs.Child.{IsUnasked};
+ghost use Rattle.duct_system.specs.EntryView.{Spawn};
+ghost use Rattle.duct_system.specs.Journal.{GivesEnds, IsNew, IsRefused};
+ghost use Rattle.duct_system.specs.Streams.{stream_of, ends_of};
 
 use crate::recorded::{
     Ending, Notes, Output, RecordedChild, RecordedDrain, RecordedReader, add_note, note_of,
@@ -83,12 +87,6 @@ impl<S: System> Recorder<S> {
 
 /// Each request is that of the system below, with its result.
 impl<S: System> System for Recorder<S> {
-    ghost use Rattle.std.specs.Prelude.{◌≤◌, min, length, map, Ok, Err, IfErr};
-    ghost use Rattle.duct_system.specs.Child.{IsUnasked};
-    ghost use Rattle.duct_system.specs.EntryView.{Spawn};
-    ghost use Rattle.duct_system.specs.Journal.{GivesEnds, IsNew, IsRefused};
-    ghost use Rattle.duct_system.specs.Streams.{stream_of, ends_of};
-
     type End = S::End;
 
     type Child = RecordedChild<S::Child>;

@@ -5,11 +5,11 @@ ghost use Rattle.std.specs.Arc.{arc_value};
 ghost use Rattle.duct_system.specs.Child.{IsUnasked};
 ghost use Rattle.duct_system.specs.EntryView.{entry_view, answer_of, Environment, Pipe, OpenRead, Create, Duplicate, Parent, Canonicalize, Spawn, Feed, Drain, Reader, Close};
 ghost use Rattle.duct_system.specs.Job.{unpolled_job};
-ghost use Rattle.duct_system.specs.Journal.{Asks, GetsEnd, GetsEnds, GivesEnds, IsCleared, IsNew, IsRefused};
+ghost use Rattle.duct_system.specs.Journal.{Asks, GetsEnds, GivesEnds, IsCleared, IsNew, IsRefused};
 ghost use Rattle.duct_system.specs.SpecView.{pair_text};
 ghost use Rattle.duct_system.specs.Streams.{stream_of, ends_of};
 ghost use Rattle.duct_replay.specs.RecordingView.{bytes_of, no_memory, output_of, status_of};
-ghost use Rattle.duct_replay.specs.Replays.{Fits, FitsChild, FitsNumber, FitsPipe, HasFound, IsNext, IsToldRight, IsUnread, MayReplay, ReplayView, Replays, Retraces, Steps, child_view, difference_after, drain_view, feed_view, next_of, next_view, noted};
+ghost use Rattle.duct_replay.specs.Replays.{Fits, FitsChild, FitsNumber, FitsPipe, HasFound, IsNext, IsToldRight, IsUnread, MayReplay, ReplayView, Replays, ReplaysEnd, Retraces, Steps, child_view, difference_after, drain_view, feed_view, next_of, next_view, noted};
 
 use crate::found::{
     environment_copy, found_canonicalize, found_create, found_drain, found_duplicate,
@@ -242,13 +242,7 @@ impl System for Replay {
     }
 
     fn open_read(&mut self, path: &str) -> Result<ReplayEnd, Fault>
-        ensures ok { IfOk result (λ end.
-            GetsEnd (OpenRead path.now (Ok end.number)) end.number self.old.journal
-            self.new.journal) }
-        ensures err { IfErr result (λ fault.
-            IsRefused (OpenRead path.now (Err fault)) 0 fault self.old.journal self.new.journal) }
-        ensures replayed { MayReplay (OpenRead path.now) (FitsNumber self.old.journal.next) self.old
-            (answer_of (λ end. end.number) result) self.new }
+        ensures { ReplaysEnd (λ e. e.number) (OpenRead path.now) self.old result self.new }
     {
         let kept = text_copy(self.journal.allocator(), path)?;
         self.prepare(1)?;
@@ -259,13 +253,7 @@ impl System for Replay {
     }
 
     fn create(&mut self, path: &str) -> Result<ReplayEnd, Fault>
-        ensures ok { IfOk result (λ end.
-            GetsEnd (Create path.now (Ok end.number)) end.number self.old.journal
-            self.new.journal) }
-        ensures err { IfErr result (λ fault.
-            IsRefused (Create path.now (Err fault)) 0 fault self.old.journal self.new.journal) }
-        ensures replayed { MayReplay (Create path.now) (FitsNumber self.old.journal.next) self.old
-            (answer_of (λ end. end.number) result) self.new }
+        ensures { ReplaysEnd (λ e. e.number) (Create path.now) self.old result self.new }
     {
         let kept = text_copy(self.journal.allocator(), path)?;
         self.prepare(1)?;
@@ -276,14 +264,7 @@ impl System for Replay {
     }
 
     fn duplicate(&mut self, end: &ReplayEnd) -> Result<ReplayEnd, Fault>
-        ensures ok { IfOk result (λ made.
-            GetsEnd (Duplicate end.now.number (Ok made.number)) made.number self.old.journal
-            self.new.journal) }
-        ensures err { IfErr result (λ fault.
-            IsRefused (Duplicate end.now.number (Err fault)) 0 fault self.old.journal
-            self.new.journal) }
-        ensures replayed { MayReplay (Duplicate end.now.number) (FitsNumber self.old.journal.next)
-            self.old (answer_of (λ made. made.number) result) self.new }
+        ensures { ReplaysEnd (λ e. e.number) (Duplicate end.now.number) self.old result self.new }
     {
         self.prepare(1)?;
         let (answer, agrees) = found_duplicate(self.next(), end.number, self.journal.next());
@@ -293,13 +274,7 @@ impl System for Replay {
     }
 
     fn parent(&mut self, side: Side) -> Result<ReplayEnd, Fault>
-        ensures ok { IfOk result (λ made.
-            GetsEnd (Parent side (Ok made.number)) made.number self.old.journal
-            self.new.journal) }
-        ensures err { IfErr result (λ fault.
-            IsRefused (Parent side (Err fault)) 0 fault self.old.journal self.new.journal) }
-        ensures replayed { MayReplay (Parent side) (FitsNumber self.old.journal.next) self.old
-            (answer_of (λ made. made.number) result) self.new }
+        ensures { ReplaysEnd (λ e. e.number) (Parent side) self.old result self.new }
     {
         self.prepare(1)?;
         let (answer, agrees) = found_parent(self.next(), side, self.journal.next());
