@@ -10,7 +10,7 @@ ghost use Rattle.duct_start.specs.Plan.{Plan};
 ghost use Rattle.duct_start.specs.Start.{StartRefused};
 ghost use Rattle.duct_start.specs.TreeView.{TreeView};
 ghost use Rattle.duct_tree.specs.Text.{printed};
-ghost use Rattle.duct_shell.specs.EntryForm.{arguments_form, entry_form, kind_name, request_form, spawn_form};
+ghost use Rattle.duct_shell.specs.EntryForm.{arguments_form, entry_form, kind_name, request_form, spawn_form, request_text, entry_text};
 ghost use Rattle.duct_shell.specs.FailedRequest.{Explains, IsTextOf, failed_request, last_asked};
 
 use duct_system::error::Error;
@@ -116,9 +116,6 @@ pub fn reason<S: System>(alloc: Global, system: &S, error: &Error) -> Result<Str
 pub struct RequestText<'a>(pub &'a Entry);
 
 impl fmt::Display for RequestText<'_> {
-    ghost use Rattle.duct_system.specs.EntryView.{entry_view};
-    ghost use Rattle.duct_shell.specs.EntryForm.{request_text};
-
     ghost output = { λ text. request_text (entry_view text.0.now) };
 
     fn fmt<W: fmt::Write>(&self, f: &mut fmt::Formatter<W>) -> fmt::Result {
@@ -132,9 +129,6 @@ impl fmt::Display for RequestText<'_> {
 pub struct EntryText<'a>(pub &'a Entry);
 
 impl fmt::Display for EntryText<'_> {
-    ghost use Rattle.duct_system.specs.EntryView.{entry_view};
-    ghost use Rattle.duct_shell.specs.EntryForm.{entry_text};
-
     ghost output = { λ text. entry_text (entry_view text.0.now) };
 
     fn fmt<W: fmt::Write>(&self, f: &mut fmt::Formatter<W>) -> fmt::Result {

@@ -219,10 +219,8 @@ impl<S: System, R, H: Hook> Shell<S, R, H> {
         ensures keeps { self.new.keeps_journal ≡ self.old.keeps_journal }
     {
         let entries = self.begin();
-        match expression.start(&mut self.system, &mut self.pool) {
-            Ok(handle) => Ok(handle),
-            Err(error) => Err(self.failure(entries, error)),
-        }
+        let returned = expression.start(&mut self.system, &mut self.pool);
+        returned.map_err(|error| self.failure(entries, error))
     }
 }
 
@@ -255,10 +253,8 @@ impl<S: System, R: Wait + Clone + Drop, H: Hook> Shell<S, R, H> {
             Ok(rt) => rt,
             Err(_) => return Err(self.failure(entries, Error::Memory)),
         };
-        match expression.reader(rt, &mut self.system, &mut self.pool) {
-            Ok(handle) => Ok(handle),
-            Err(error) => Err(self.failure(entries, error)),
-        }
+        let returned = expression.reader(rt, &mut self.system, &mut self.pool);
+        returned.map_err(|error| self.failure(entries, error))
     }
 }
 
@@ -281,10 +277,8 @@ impl<S: System, R: Wait, H: Hook> Shell<S, R, H> {
         ensures keeps { self.new.keeps_journal ≡ self.old.keeps_journal }
     {
         let entries = self.begin();
-        match expression.run(&self.rt, &mut self.system, &mut self.pool) {
-            Ok(output) => Ok(output),
-            Err(error) => Err(self.failure(entries, error)),
-        }
+        let returned = expression.run(&self.rt, &mut self.system, &mut self.pool);
+        returned.map_err(|error| self.failure(entries, error))
     }
 
     /// Reads what an expression prints, as `Expression::read` does: it blocks until it has ended,
@@ -305,10 +299,8 @@ impl<S: System, R: Wait, H: Hook> Shell<S, R, H> {
         ensures keeps { self.new.keeps_journal ≡ self.old.keeps_journal }
     {
         let entries = self.begin();
-        match expression.read(&self.rt, &mut self.system, &mut self.pool) {
-            Ok(text) => Ok(text),
-            Err(error) => Err(self.failure(entries, error)),
-        }
+        let returned = expression.read(&self.rt, &mut self.system, &mut self.pool);
+        returned.map_err(|error| self.failure(entries, error))
     }
 
     /// Waits for a handle as `Handle::into_output` does: it blocks until what it runs has ended,

@@ -9,6 +9,10 @@ ghost use Rattle.duct_running.specs.Polled.{Polled};
 ghost use Rattle.duct_handle.specs.Deadline.{IsLate, IsTimely};
 ghost use Rattle.duct_handle.specs.Waited.{at_end};
 ghost use Rattle.duct_shell.specs.Reads.{HasOutput, ReadsOnce};
+ghost use Rattle.duct_status.specs.ShapeView.{shape_view};
+ghost use Rattle.duct_running.specs.Allowed.{OneRuns};
+ghost use Rattle.duct_running.specs.Answered.{IsAnswer};
+ghost use Rattle.duct_handle.specs.Obeyed.{IsObeyed};
 
 use duct_base::error::Error;
 use duct_base::system::{Clock, Output, System};
@@ -106,11 +110,6 @@ where
     S::Feed: Send,
     S::Drain: Send,
 {
-    ghost use Rattle.duct_status.specs.ShapeView.{shape_view};
-    ghost use Rattle.duct_running.specs.Allowed.{OneRuns};
-    ghost use Rattle.duct_running.specs.Answered.{IsAnswer};
-    ghost use Rattle.duct_handle.specs.Obeyed.{IsObeyed};
-
     ghost may_return = { λ handle polled. IsAnswer ⟦<S as Viewed>⟧.views (shape_view handle.shape)
         handle.numbers polled };
 
@@ -219,11 +218,6 @@ where
     S::Drain: Send,
     S::Reader: Send,
 {
-    ghost use Rattle.duct_status.specs.ShapeView.{shape_view};
-    ghost use Rattle.duct_running.specs.Allowed.{OneRuns};
-    ghost use Rattle.duct_running.specs.Answered.{IsAnswer};
-    ghost use Rattle.duct_handle.specs.Obeyed.{IsObeyed};
-
     ghost may_return = { λ handle polled. IsAnswer ⟦<S as Viewed>⟧.views (shape_view handle.shape)
         handle.numbers polled };
 
