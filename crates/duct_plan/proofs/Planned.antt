@@ -1,5 +1,5 @@
 -- The plan from the root inwards, and the tasks that are left for it.
-use Rattle.std.proofs.Common.{◌≡◌, List, [], ◌∷◌, ◌+◌, ◌++◌, ◌∙◌, ap, arith, refl, sym}
+use Rattle.std.proofs.Common.{◌≡◌, List, [], ◌∷◌, ◌+◌, ◌++◌, ap, arith, refl, sym}
 use Rattle.std.proofs.lemmas.List.{append-nil}
 use Rattle.duct_start.specs.Plan.{Plan, plan_of_subtree, with_closing}
 use Rattle.duct_start.specs.Surroundings.{root_surroundings}
@@ -29,9 +29,7 @@ module _ {E H : Type 0} where
       → after_task below (after_task above plan) ≡ after
       → after_tasks two plan ≡ after_tasks tasks after
   after_two tasks one two below above plan after one_is two_is after_is =
-      ap (λ (ts : List (Task E H)). after_tasks ts plan) two_is ∙ after_last one above plan
-      ∙ ap (λ (ts : List (Task E H)). after_tasks ts (after_task above plan)) one_is
-      ∙ after_last tasks below (after_task above plan) ∙ ap (after_tasks tasks) after_is
+      rw (two_is, after_last one above plan, one_is, after_last tasks below, after_is)
 
   -- one more task is left
   pub left_with : (tasks : List (Task E H)) (task : Task E H)

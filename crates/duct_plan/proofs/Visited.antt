@@ -1,23 +1,15 @@
 -- What a node comes to, by what is found inside it.
-use Rattle.std.proofs.Common.{◌≡◌, ◌∙◌, ℕ, length, sym}
+use Rattle.std.proofs.Common.{◌≡◌, ℕ, length}
 use Rattle.std.proofs.lemmas.List.{append-nil}
 use Rattle.duct_start.specs.Plan.{Plan, place_for, with_closing, with_item, with_opening}
 use Rattle.duct_start.specs.Row.{Row, row}
-use Rattle.duct_start.specs.Step.{AskPipe, closing_of, left_step, opening_of, right_step, step_of_row}
+use Rattle.duct_start.specs.Step.{AskPipe, closing_of, opening_of, step_of_row}
 use Rattle.duct_start.specs.Surroundings.{Surroundings, ReaderAt, WriterAt}
 use Rattle.duct_start.specs.TreeView.{ModifierView, TreeView, around, pipe}
 use Rattle.duct_run.proofs.PlanInward.{plan_inward, surroundings_within}
 
 module _ {E H : Type 0} where
   -- a side of a pipe sets no hooks
-  reads_at : (place : ℕ) (found : Surroundings E H)
-      → record found { input = ReaderAt place } ≡ surroundings_within right_step place found
-  reads_at place found = λ i. record found { input = ReaderAt place; hooks = sym (append-nil found.hooks) i }
-
-  writes_at : (place : ℕ) (found : Surroundings E H)
-      → record found { output = WriterAt place } ≡ surroundings_within left_step place found
-  writes_at place found = λ i. record found { output = WriterAt place; hooks = sym (append-nil found.hooks) i }
-
   pub pipe_inside : (left right : TreeView E H) (place : ℕ) (found reading writing : Surroundings E H)
       (plan after : Plan E H)
       → reading ≡ record found { input = ReaderAt place }
@@ -26,9 +18,7 @@ module _ {E H : Type 0} where
       → plan_inward reading right (plan_inward writing left after)
       ≡ plan_inward found (pipe left right) plan
   pipe_inside left right place found reading writing plan after in_right in_left place_is after_is =
-      let rights = in_right ∙ reads_at place found ∙ (λ i. surroundings_within right_step (place_is i) found) in
-      let lefts = in_left ∙ writes_at place found ∙ (λ i. surroundings_within left_step (place_is i) found) in
-      λ i. plan_inward (rights i) right (plan_inward (lefts i) left (after_is i))
+      rw (after_is, in_right, in_left, place_is, append-nil found.hooks)
 
   pub around_inside : (modifier : ModifierView E H) (inner : TreeView E H) (place : ℕ)
       (found within : Surroundings E H) (plan after : Plan E H) (node : Row E H)
@@ -39,10 +29,4 @@ module _ {E H : Type 0} where
       → with_closing (closing_of node.opens place) (plan_inward within inner after)
       ≡ plan_inward found (around modifier inner) plan
   around_inside modifier inner place found within plan after node node_is in_inner place_is after_is =
-      let places : place ≡ place_for {E = E} {H = H} (opening_of (row modifier).opens) plan =
-      place_is ∙ (λ i. place_for {E = E} {H = H} (opening_of (node_is i).opens) plan) in
-      let inners : within ≡ surroundings_within (step_of_row (row modifier)) (place_for {E = E} {H = H} (opening_of (row modifier).opens) plan) found =
-      in_inner ∙ (λ i. surroundings_within (step_of_row (node_is i)) (places i) found) in
-      let afters : after ≡ with_opening (opening_of (row modifier).opens) plan =
-      after_is ∙ (λ i. with_opening (opening_of (node_is i).opens) plan) in
-      λ i. with_closing (closing_of (node_is i).opens (places i)) (plan_inward (inners i) inner (afters i))
+      rw (after_is, in_inner, place_is, node_is)

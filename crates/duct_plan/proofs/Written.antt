@@ -15,14 +15,14 @@ module _ {W : Type 0} (took : W → List ℕ → W → Type 0) where
       (result : Result (Unit {0}) Error) (after : Formatter W)
       → DisplaysOnOk took g result left after → DisplaysOnOk took f result all after
 
-  module _ {X : Type 0} (text : ℕ → List X → Option (List ℕ)) (one : ℕ → X → Option (List ℕ))
-      (f g : Formatter W) (all : Option (List ℕ)) (xs : List X) (i : ℕ) where
+  module _ {X : Type 0} (text : ℕ → List X → Option (List ℕ)) (f g : Formatter W)
+      (all : Option (List ℕ)) (xs : List X) (i : ℕ) where
     -- one more item was written
-    pub continues_more : (h : Formatter W) (x : X)
+    pub continues_more : (one : ℕ → X → Option (List ℕ)) (h : Formatter W) (x : X)
         → ((j : ℕ) (y : X) (ys : List X) → text j (y ∷ ys) ≡ one j y ++? text (j + 1) ys)
         → i < length xs → x ≡ get_or xs i x → DisplaysOnOk took g (Ok tt) (one i x) h
         → Continues f all g (text i (drop i xs)) → Continues f all h (text (i + 1) (drop (i + 1) xs))
-    continues_more h x step more is wrote rest result after displays =
+    continues_more one h x step more is wrote rest result after displays =
         let left = text (i + 1) (drop (i + 1) xs) in
         let parts : text i (drop i xs) ≡ one i x ++? left =
         at_drop_more (text i) xs i x more ∙ ap (λ (y : X). text i (y ∷ drop (i + 1) xs)) (sym is)

@@ -61,10 +61,6 @@ change_form (Sets name value) = of_variable (codes " with ") name value
 change_form (Removes name) = of_text (codes " without ") name
 change_form (Replaces vars) = before (plain (codes " with only")) (each_form variable_form vars)
 
--- an argument
-abbrev pub argument_form : List ℕ → Form
-argument_form argument = of_text (codes " ") argument
-
 -- a program: unknown where its canonical path is requested first
 unfoldable pub program_form : {E H : Type 0} → Surroundings E H → List (List ℕ) → Form
 program_form found words =
@@ -83,7 +79,7 @@ stream_form name stream target = joined (plain name ∷ target_form stream targe
 -- nearest first
 unfoldable pub command_form : {E H : Type 0} → Surroundings E H → List (List ℕ) → Form
 command_form found words =
-    joined (program_form found words ∷ each_form argument_form (drop 1 words)
+    joined (program_form found words ∷ each_form (of_text (codes " ")) (drop 1 words)
     ∷ folder_form found.folder ∷ each_form change_form found.changes ∷ [])
 
 -- the spawn of a command
@@ -116,11 +112,8 @@ abbrev pub lines_form : {E H : Type 0} → ℕ → List (Item E H) → Form
 lines_form place [] = plain []
 lines_form place (item ∷ items) = before (line_form place item) (lines_form (place + 1) items)
 
--- the lines of a plan
-abbrev pub plan_form : {E H : Type 0} → Plan E H → Form
-plan_form plan = lines_form 0 plan.items
-
 -- the text of a plan, where all texts of it are printable ASCII; else no promise
 abbrev pub plan_text : {E H : Type 0} → Plan E H → Option (List ℕ)
 plan_text plan =
-    if is_form_printable (plan_form plan) then Some (form_text (plan_form plan)) else None
+    let lines = lines_form 0 plan.items in
+    if is_form_printable lines then Some (form_text lines) else None

@@ -128,11 +128,11 @@ impl<'t, E, H> Surroundings<'t, E, H> {
         })
     }
 
-    /// Goes on to what is found inside a node at this place that does this. Fails only on allocation
-    /// failure.
+    /// Goes on to what is found inside a node at this place that does this. Fails only on
+    /// allocation failure.
     pub(crate) fn enter(&mut self, effect: Effect<'t, E, H>, place: usize) -> Result<(), AllocError>
-        ensures { OnOk result (found_of self.new
-            ≡ surroundings_within (step_of_row (effect_view effect.entry)) place (found_of self.old)) }
+        ensures { OnOk result (found_of self.new ≡ surroundings_within
+            (step_of_row (effect_view effect.entry)) place (found_of self.old)) }
     {
         let input = self.input_inside(effect.input, effect.opening, place);
         let output = self.output_inside(effect.output, effect.opening, place);

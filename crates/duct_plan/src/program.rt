@@ -65,32 +65,13 @@ pub fn perform<O: Write, E: Write>(alloc: Global, args: &[String], out: &mut O, 
         × (out.new ≡ out.old) }
     ensures status { result ≤ 2 }
 {
-    match printed(alloc, args) {
+    let printed = match args.split_first() {
+        Some((first, words)) if first.as_str() == "--dot" => drawing(alloc, words),
+        _ => preview(alloc, args),
+    };
+    match printed {
         Ok(text) => PROGRAM.tell(out, 0, text.as_str()),
         Err(usage) => PROGRAM.tell(err, Failure::Usage(usage).status(), usage_line(usage)),
-    }
-}
-
-// Returns what the program prints for its arguments.
-fn printed(alloc: Global, args: &[String]) -> Result<String, Usage>
-    ensures text { IfOk result
-        (λ text. IsPrinted (asked_of (map string_bytes args.now)) (string_bytes text)) }
-    ensures usage { IfErr result
-        (λ usage. RefusesAs usage (line_of (asked_of (map string_bytes args.now)).1)) }
-{
-    match asked_of(args) {
-        (true, words) => drawing(alloc, words),
-        (false, words) => preview(alloc, words),
-    }
-}
-
-// Returns whether the first argument asks for a drawing, and the arguments of the line.
-fn asked_of(args: &[String]) -> (bool, &[String])
-    ensures { (result.0, map string_bytes result.1.now) ≡ asked_of (map string_bytes args.now) }
-{
-    match args.split_first() {
-        Some((first, words)) if first.as_str() == "--dot" => (true, words),
-        _ => (false, args),
     }
 }
 

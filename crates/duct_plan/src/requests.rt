@@ -1,7 +1,7 @@
 //! The requests of a start, computed from the tree alone.
 ghost use Rattle.std.specs.Prelude.{◌≡◌, ◌+◌, ◌<◌, IfOk, OnOk, map, string_bytes};
 ghost use Rattle.duct_run.proofs.PlanInward.{plan_inward};
-ghost use Rattle.duct_start.specs.Plan.{with_item, with_capture, with_opening, place_for, with_closing, program_of, is_canonical, with_command, initial_plan, with_drain, with_reader, plan_of, plan_of_reader};
+ghost use Rattle.duct_start.specs.Plan.{with_item, with_capture, with_opening, place_for, with_closing, program_of, is_canonical, with_command, initial_plan, with_drain, plan_of, plan_of_reader};
 ghost use Rattle.duct_start.specs.Step.{Captures, closing_of, opening_of};
 ghost use Rattle.duct_tree.specs.EffectView.{opening_view};
 ghost use Rattle.duct_tree.specs.NodeView.{node_view};
@@ -46,7 +46,10 @@ pub fn plan_of_reader<'t, E: Drop, H: Drop>(
     plan.add_tree(alloc, found, expression.root())?;
     let (out, err) = (plan.out, plan.err);
     plan.add_drain(err)?;
-    plan.add_reader(out)?;
+    match out {
+        None => {}
+        Some(pipe) => plan.add(Item::Reader(pipe))?,
+    }
     Ok(plan)
 }
 
@@ -79,10 +82,8 @@ impl<'t, E: Drop, H: Drop> Plan<'t, E, H> {
     fn initial(alloc: Global) -> Result<Plan<'t, E, H>, AllocError>
         ensures { IfOk result (λ plan. plan_view plan ≡ initial_plan) }
     {
-        let mut items = Vec::new(alloc);
-        items.push(Item::Environment)?;
         Ok(Plan {
-            items,
+            items: vec![in alloc; Item::Environment]?,
             out: None,
             err: None,
         })
@@ -103,16 +104,6 @@ impl<'t, E: Drop, H: Drop> Plan<'t, E, H> {
         match pipe {
             None => Ok(()),
             Some(place) => self.add(Item::Drain(place)),
-        }
-    }
-
-    // Adds the reader of a capture pipe, if that pipe is open.
-    fn add_reader(&mut self, pipe: Option<usize>) -> Result<(), AllocError>
-        ensures { OnOk result (plan_view self.new ≡ with_reader pipe (plan_view self.old)) }
-    {
-        match pipe {
-            None => Ok(()),
-            Some(place) => self.add(Item::Reader(place)),
         }
     }
 
@@ -184,8 +175,8 @@ impl<'t, E: Drop, H: Drop> Plan<'t, E, H> {
         found: Surroundings<'t, E, H>,
         words: &'t [String],
     ) -> Result<(), AllocError>
-        ensures { OnOk result (plan_view self.new
-            ≡ with_command (found_of found.entry) (map string_bytes words.now) (plan_view self.old)) }
+        ensures { OnOk result (plan_view self.new ≡ with_command (found_of found.entry)
+            (map string_bytes words.now) (plan_view self.old)) }
     {
         if is_canonical(&found, words) {
             self.add(Item::Canonicalize(program_of(words)))?;

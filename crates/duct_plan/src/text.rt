@@ -1,11 +1,11 @@
 //! The text of a plan: a line for each request, with its place.
-ghost use Rattle.std.specs.Prelude.{◌≡◌, map, string_bytes};
+ghost use Rattle.std.specs.Prelude.{◌≡◌, codes, map, string_bytes};
 ghost use Rattle.std.specs.Fmt.{DisplaysOnOk};
 ghost use Rattle.std.specs.Option.{option_copied};
 ghost use Rattle.duct_system.specs.SpecView.{var_view};
 ghost use Rattle.duct_tree.specs.Text.{printed};
 ghost use Rattle.duct_plan.specs.PlanView.{change_of, found_of, item_of, target_of};
-ghost use Rattle.duct_plan.specs.PlanForm.{argument_form, change_form, command_form, each_form, folder_form, hooks_form, item_form, line_form, parents_text, program_form, spawn_form, stream_form, variable_form};
+ghost use Rattle.duct_plan.specs.PlanForm.{change_form, command_form, each_form, folder_form, hooks_form, item_form, line_form, of_text, parents_text, program_form, spawn_form, stream_form, variable_form};
 
 use crate::items::{Item, Plan, Surroundings, Target, VariableChange};
 use crate::requests::{is_canonical, program_of};
@@ -85,7 +85,8 @@ impl<E, H> Surroundings<'_, E, H> {
         write_hooks(self.hooks.as_slice(), f)
     }
 
-    // Writes what is started: a program, its arguments, its folder and the changes of its variables.
+    // Writes what is started: a program, its arguments, its folder and the changes of its
+    // variables.
     #[tactic(auto, unfolding(crate::specs::PlanForm::command_form))]
     fn write_command<W: Write>(&self, words: &[String], f: &mut Formatter<W>) -> fmt::Result
         ensures { DisplaysOnOk W.write_str_gives f.old result
@@ -114,7 +115,7 @@ impl<E, H> Surroundings<'_, E, H> {
 // Writes arguments, with a space before each.
 fn write_arguments<W: Write>(arguments: &[String], f: &mut Formatter<W>) -> fmt::Result
     ensures { DisplaysOnOk W.write_str_gives f.old result
-        (printed (each_form argument_form (map string_bytes arguments.now))) f.new }
+        (printed (each_form (of_text (codes " ")) (map string_bytes arguments.now))) f.new }
 {
     for argument in arguments {
         write!(f, " {argument:?}")?;

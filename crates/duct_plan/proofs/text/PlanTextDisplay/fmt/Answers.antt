@@ -2,8 +2,8 @@
 use Rattle.std.proofs.Common.{Ok, arith, map, refl}
 use Rattle.duct_tree.specs.Text.{form_text, is_form_printable, printed}
 use Rattle.duct_tree.proofs.Printing.{form_prints, displays_if}
-use Rattle.duct_plan.specs.PlanView.{item_of, plan_view}
-use Rattle.duct_plan.specs.PlanForm.{line_form, lines_form, plan_form}
+use Rattle.duct_plan.specs.PlanView.{item_of}
+use Rattle.duct_plan.specs.PlanForm.{line_form, lines_form}
 use Rattle.duct_plan.proofs.Written.{continues_more, continues_end}
 use Rattle.duct_plan.proofs.text.PlanTextDisplay.fmt.Goals as goal
 
@@ -11,9 +11,8 @@ pub loop-item-preserved : goal.loop-item-preserved
 loop-item-preserved g c = (
   omega arith,
   continues_more g.W.Write.write_str_gives
-      (λ place items. printed (lines_form place (map item_of items)))
-      (λ place item. printed (line_form place (item_of item)))
-      _ _ _ _ c.loop-item.item-index c.write_line.new.f c.item-item.result
+      (λ place items. printed (lines_form place (map item_of items))) _ _ _ _ c.loop-item.item-index
+      (λ place item. printed (line_form place (item_of item))) c.write_line.new.f c.item-item.result
       (λ place item items. refl) c.loop-item-test.true c.item-item.is
       (rw c.loop-item.invariant.0 at c.in_ok-write_line.ensures)
       c.loop-item.invariant.1,
@@ -21,9 +20,8 @@ loop-item-preserved g c = (
 
 pub returns-clause-writes : goal.returns-clause-writes
 returns-clause-writes g c =
-    let form = plan_form (plan_view c.args.self.now.0.now) in
+    let form = lines_form 0 (map item_of c.args.self.now.0.now.items.items) in
     displays_if g.W.Write.write_str_gives _ (Ok tt) c.before.loop-item.f (is_form_printable form) (printed form) (form_text form) (form_prints form)
     (continues_end g.W.Write.write_str_gives
     (λ place items. printed (lines_form place (map item_of items)))
-    (λ place item. printed (line_form place (item_of item)))
     _ _ _ _ c.loop-item.item-index refl (omega arith) c.loop-item.invariant.1)
