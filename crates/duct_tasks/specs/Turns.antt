@@ -31,7 +31,7 @@ use Rattle.duct.specs.declared.expression.Expression.{Expression}
 use Rattle.duct_tasks.specs.declared.task.Task.{Task}
 use Rattle.duct_tasks.specs.declared.task.Task.TheVariants.{Running, Ended}
 use Rattle.duct_tasks.specs.declared.many.AtFailure.{AtFailure}
-use Rattle.duct_tasks.specs.declared.many.AtFailure.TheVariants.{GoOn}
+use Rattle.duct_tasks.specs.declared.many.AtFailure.TheVariants.{GoOn, Wait, Stop}
 use Rattle.duct_tasks.specs.declared.keeper.Kept.{Kept}
 use Rattle.duct_tasks.specs.declared.keeper.Why.{Why}
 use Rattle.duct_tasks.specs.declared.keeper.Why.TheVariants.{Stopped, GaveUp, Failed}
@@ -51,7 +51,8 @@ failed_of other = 0
 -- none has failed, or the others go on
 abbrev pub GoesOn : AtFailure → Bool → Type 0
 GoesOn GoOn failed = Unit {0}
-GoesOn other failed = failed ≡ false
+GoesOn Wait failed = failed ≡ false
+GoesOn Stop failed = failed ≡ false
 
 -- how an expression ended
 abbrev pub End : Type 0
@@ -64,7 +65,8 @@ AreEnds tasks ends = tasks ≡ map (λ end. Ended end) ends
 -- whether the children of what ended like this, or was killed, are given to a pool
 abbrev pub gives : Option End → Bool
 gives (Some (Ok output)) = false
-gives other = true
+gives (Some (Err e)) = true
+gives None = true
 
 -- each of these was made of its task by one turn, in order, and each turn began with the system as
 -- the one before had left it; tasks at the end may have had no turn. The turns gave this many
