@@ -16,13 +16,13 @@ use Rattle.duct_start.specs.Start.{StartSucceeds}
 use Rattle.duct_start.specs.TreeView.{TreeView}
 use Rattle.duct_run.proofs.Leaving.{takes_in}
 use Rattle.duct_start.specs.Left.{Leaves, pool_view}
-use Rattle.duct_run.specs.SystemViews.{SystemViews}
+use Rattle.duct_system.specs.SystemViews.{SystemViews}
 use Rattle.duct_running.specs.NumbersView.{numbers_of}
 use Rattle.duct_running.specs.Stays.{StaysSame}
 use Rattle.duct_running.specs.Stored.{Bytes}
 use Rattle.duct_handle.proofs.Beginning.{are_numbers}
 use Rattle.duct_handle.specs.Finished.{RanUntilGiven}
-use Rattle.duct_reader.specs.ReadsText.{FailsToRead}
+use Rattle.duct_handle.specs.ReadsText.{FailsToRead}
 use Rattle.duct.specs.Launched.{MadeBy, Runs, StartKind, WaitFailed, added_between, drains_error, drains_output, plan_for}
 use Rattle.duct.specs.RunResults.{RanTree, ReadStopsBy}
 use Rattle.duct.specs.TreeView.{tree_view}

@@ -21,7 +21,7 @@ use Rattle.duct_start.specs.TreeView.{TreeView}
 use Rattle.duct_run.proofs.Counted.{started_counts}
 use Rattle.duct_run.proofs.Launched.{drained_items, drained_pipes, invariant_launched, launched, list_leads, read_items, read_pipe, refused_launched, unasked_launch}
 use Rattle.duct_run.proofs.Leaving.{leaves_unasked}
-use Rattle.duct_run.specs.SystemViews.{SystemViews}
+use Rattle.duct_system.specs.SystemViews.{SystemViews}
 use Rattle.duct_run.specs.declared.resources.Resources.{Resources}
 use Rattle.duct_run.proofs.GivenUp.{given_up, left_started}
 use Rattle.duct_run.proofs.New.{run, runs_started}

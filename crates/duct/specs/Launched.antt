@@ -16,7 +16,7 @@ use Rattle.duct_start.specs.Running.{MadeReader, IsRunning, RunningView}
 use Rattle.duct_start.specs.Start.{StartSucceeds, StartRefused}
 use Rattle.duct_start.specs.TreeView.{TreeView}
 use Rattle.duct_run.specs.RunContract.{IsReaderOf}
-use Rattle.duct_run.specs.SystemViews.{SystemViews}
+use Rattle.duct_system.specs.SystemViews.{SystemViews}
 pub use Rattle.duct_run.specs.declared.start.StartKind.{StartKind}
 pub use Rattle.duct_run.specs.declared.start.StartKind.TheVariants.{Draining as draining, Reading as reading}
 use Rattle.duct_running.specs.Stored.{Bytes}

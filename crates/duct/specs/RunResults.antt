@@ -10,12 +10,12 @@ use Rattle.duct_status.specs.ShapeView.{shape_view}
 use Rattle.duct_start.specs.Running.{MadeReader, RunningView}
 use Rattle.duct_start.specs.ShapeOfTree.{shape_of_tree}
 use Rattle.duct_start.specs.TreeView.{TreeView}
-use Rattle.duct_run.specs.SystemViews.{SystemViews}
+use Rattle.duct_system.specs.SystemViews.{SystemViews}
 use Rattle.duct_running.specs.NumbersView.{numbers_of}
 use Rattle.duct_running.specs.Ordered.{IsUnordered}
 use Rattle.duct_running.specs.Stored.{Bytes}
 use Rattle.duct_handle.specs.Started.{AreNumbers}
-use Rattle.duct_reader.specs.ReadsText.{HasNoText, HasText, IsFault}
+use Rattle.duct_handle.specs.ReadsText.{HasNoText, HasText, IsFault}
 
 module _ {S E C F D V W : Type 0} (views : SystemViews S E C F D V W) where
   -- children and workers of a tree, by the entries of its start: it has the tree's shape, each of

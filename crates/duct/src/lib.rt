@@ -36,7 +36,7 @@ pub use duct_base::system::{
 pub use duct_base::error::Error;
 pub use duct_base::system::{ExitStatus, Output};
 pub use duct_handle::handle::{Handle, Seen};
-pub use duct_reader::reader::ReaderHandle;
+pub use duct_handle::reader::ReaderHandle;
 pub use duct_running::running::Running;
 
 /// What Unix adds: signals to the commands of a handle.
@@ -45,10 +45,10 @@ pub mod unix {
 }
 
 // What a worker does, and workers on threads of their own.
-pub use duct_worker::shared::Shared;
-pub use duct_worker::spawn::{spawn_drain, spawn_feed};
-pub use duct_worker::transfer::{drain, feed};
-pub use duct_worker::worker::Worker;
+pub use duct_base::shared::Shared;
+pub use duct_base::spawn::{spawn_drain, spawn_feed};
+pub use duct_base::transfer::{drain, feed};
+pub use duct_base::worker::Worker;
 
 // How an expression ended, by what its commands and workers reported.
 pub use duct_base::status::{Core, Drains, Event, Reply, Shape, Word};

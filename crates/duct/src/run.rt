@@ -10,10 +10,10 @@ use duct_base::spec::Hook;
 use duct_base::system::{Child, Job, Output, System};
 use duct_handle::buffers::{handle_buffers, handle_of};
 use duct_handle::finish::finish;
-use duct_reader::read::read_text;
-use duct_reader::reader::{ReaderHandle, reader_handle_of};
+use duct_handle::read::read_text;
+use duct_handle::reader::{ReaderHandle, reader_handle_of};
 use duct_run::start::StartKind;
-use duct_run::views::Viewed;
+use duct_system::views::Viewed;
 use std::io::Read;
 use std::sync::Wait;
 

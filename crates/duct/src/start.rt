@@ -16,8 +16,8 @@ use duct_handle::buffers::{handle_buffers, handle_of};
 use duct_handle::handle::Handle;
 use duct_run::resources::{Resources, no_resources};
 use duct_run::start::{StartKind, start};
-use duct_run::views::Viewed;
 use duct_running::running::{Running, RunningBuffers, running_of};
+use duct_system::views::Viewed;
 use duct_tree::compile::{Compiled, compile};
 
 // What a start allocates before its first request: what its tree was compiled to, a core for its

@@ -1,2 +1,5 @@
 pub mod Executable
 pub mod Pool
+pub mod Transfer
+pub mod Word
+pub mod WorkerView

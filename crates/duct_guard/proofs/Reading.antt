@@ -8,7 +8,7 @@ use Rattle.duct_system.specs.declared.error.Error.{Error}
 use Rattle.duct_system.specs.declared.system.Output.{Output}
 use Rattle.duct_start.specs.Chain.{Allows, Refuses}
 use Rattle.duct_start.specs.Start.{Grows}
-use Rattle.duct_run.specs.SystemViews.{SystemViews}
+use Rattle.duct_system.specs.SystemViews.{SystemViews}
 use Rattle.duct_running.specs.Stored.{Bytes}
 use Rattle.duct.specs.Launched.{Fails, Launched, ReadFails, Reads, Returns, RunFailed, draining, reading}
 use Rattle.duct.specs.declared.expression.Expression.{Expression}

@@ -5,7 +5,7 @@ use Rattle.std.specs.declared.io.ErrorKind.{ErrorKind}
 use Rattle.std.specs.declared.option.Option.{Option}
 use Rattle.duct_system.specs.SpecView.{SpecView}
 use Rattle.duct_words.specs.Quote.{quote_of}
-use Rattle.duct_worker.specs.Transfer.{AppendsFront}
+use Rattle.duct_base.specs.Transfer.{AppendsFront}
 
 -- the line of this text of a command: after `+`, and in this folder if there is one
 abbrev pub line_in : Option (List ℕ) → List ℕ → List ℕ

@@ -7,11 +7,11 @@ ghost use Rattle.duct_system.specs.Journal.{GivesEnds, IsNew, IsRefused};
 ghost use Rattle.duct_system.specs.Streams.{stream_of, ends_of};
 ghost use Rattle.duct_guard.specs.Traces.{Traces, line_in, line_of};
 
+use duct_base::transfer::write_whole;
+use duct_base::watched::Watched;
 use duct_system::spec::CommandSpec;
 use duct_system::system::{Entry, Fault, Side, Stdio, System};
 use duct_words::quote;
-use duct_worker::transfer::write_whole;
-use duct_worker::watched::Watched;
 use std::alloc::{AllocError, Global};
 use std::io::{ErrorKind, Write};
 use std::sync::Arc;

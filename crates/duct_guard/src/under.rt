@@ -10,7 +10,7 @@ use crate::fixed::{Fixed, FixedRules};
 use crate::guard::Guarded;
 use crate::policy::Policy;
 use duct::{Error, Expression, Hook, Output, Pool, System};
-use duct_run::views::Viewed;
+use duct_system::views::Viewed;
 use std::alloc::Global;
 use std::marker::Brand;
 use std::sync::Wait;

@@ -15,7 +15,7 @@ use Rattle.duct_status.specs.ReplyView.{ReplyView, answered, failed, faulted, no
 use Rattle.duct_status.specs.ShapeView.{shape_view}
 use Rattle.duct_start.specs.Running.{RunningView}
 use Rattle.duct_run.specs.Requested.{PoolGets}
-use Rattle.duct_run.specs.SystemViews.{SystemViews}
+use Rattle.duct_system.specs.SystemViews.{SystemViews}
 use Rattle.duct_running.specs.Allowed.{StoresAllowed}
 use Rattle.duct_running.specs.Answered.{IsConcluded}
 use Rattle.duct_running.specs.NumbersView.{numbers_of}

@@ -8,7 +8,7 @@ use Rattle.duct_system.specs.declared.system.Kind.TheVariants.{Other}
 use Rattle.duct_start.specs.Running.{RunningView}
 use Rattle.duct_base.specs.Pool.{PoolView}
 use Rattle.duct_run.specs.Requested.{PoolGets}
-use Rattle.duct_run.specs.SystemViews.{SystemViews}
+use Rattle.duct_system.specs.SystemViews.{SystemViews}
 use Rattle.duct_running.specs.NumbersView.{NumbersView, numbers_of}
 use Rattle.duct_handle.specs.AreGiven.{AreGiven}
 

@@ -5,3 +5,6 @@ pub mod Obeying
 pub mod Polling
 pub mod Sharing
 pub mod Threads
+pub mod Reading
+pub mod ReaderThreads
+pub mod Trimming

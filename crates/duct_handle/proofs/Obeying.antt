@@ -11,7 +11,7 @@ use Rattle.duct_system.specs.Child.{ChildView, Obeyed, OrdersChild}
 use Rattle.duct_system.specs.declared.error.Error.{Error}
 use Rattle.duct_system.specs.declared.system.ExitStatus.{ExitStatus}
 use Rattle.duct_system.specs.declared.system.Order.{Order}
-use Rattle.duct_run.specs.SystemViews.{SystemViews}
+use Rattle.duct_system.specs.SystemViews.{SystemViews}
 use Rattle.duct_running.specs.Ordered.{AllOrdered, IsOrdered}
 use Rattle.duct_running.specs.Allowed.{ChildAnswersAllowed}
 use Rattle.duct_handle.specs.Obeyed.{IsObeyed, CommandAnswers}

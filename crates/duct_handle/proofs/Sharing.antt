@@ -10,7 +10,7 @@ use Rattle.duct_system.specs.declared.error.Error.{Error}
 use Rattle.duct_system.specs.declared.error.Error.TheVariants as error
 use Rattle.duct_status.specs.ShapeView.{ShapeView, shape_view}
 use Rattle.once_cell.specs.Once.{Agrees}
-use Rattle.duct_run.specs.SystemViews.{SystemViews}
+use Rattle.duct_system.specs.SystemViews.{SystemViews}
 use Rattle.duct_running.specs.Answered.{Concluded, IsAnswer, WasConcluded}
 use Rattle.duct_running.specs.Polled.{Polled}
 use Rattle.duct_running.specs.Allowed.{OneRuns}

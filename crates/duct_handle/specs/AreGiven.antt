@@ -5,7 +5,7 @@ use Rattle.duct_system.specs.declared.error.Error.TheVariants as error
 use Rattle.duct_system.specs.declared.system.Kind.TheVariants.{Other}
 use Rattle.duct_base.specs.Pool.{PoolView}
 use Rattle.duct_run.specs.Requested.{PoolGets}
-use Rattle.duct_run.specs.SystemViews.{SystemViews}
+use Rattle.duct_system.specs.SystemViews.{SystemViews}
 use Rattle.duct_running.specs.NumbersView.{NumbersView}
 
 module _ {S E C F D V W : Type 0} (views : SystemViews S E C F D V W) where

@@ -6,3 +6,7 @@ pub mod HandleView
 pub mod Obeyed
 pub mod Started
 pub mod Waited
+pub mod ErrorKinds
+pub mod Reads
+pub mod ReadsText
+pub mod Trimmed

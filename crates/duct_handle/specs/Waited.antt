@@ -7,7 +7,7 @@ use Rattle.duct_system.specs.declared.error.Error.{Error}
 use Rattle.duct_system.specs.declared.error.Error.TheVariants as error
 use Rattle.duct_system.specs.declared.system.Output.{Output}
 use Rattle.duct_status.specs.ShapeView.{shape_view}
-use Rattle.duct_run.specs.SystemViews.{SystemViews}
+use Rattle.duct_system.specs.SystemViews.{SystemViews}
 use Rattle.duct_running.specs.Answered.{IsAnswer}
 use Rattle.duct_running.specs.Polled.{Gives, Polled}
 use Rattle.duct_running.specs.Stored.{Bytes}

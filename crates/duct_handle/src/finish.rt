@@ -9,13 +9,13 @@ ghost use Rattle.duct_handle.specs.Finished.{RanUntil, RanUntilGiven, StoresErro
 ghost use Rattle.duct_handle.specs.Waited.{at_end};
 
 use crate::output::output_or_give_up;
-use crate::pause::Pause;
 use crate::poll::polled;
 use duct_base::error::Error;
+use duct_base::pause::Pause;
 use duct_base::pool::Pool;
 use duct_base::system::{Output, System};
-use duct_run::views::Viewed;
 use duct_running::running::Running;
+use duct_system::views::Viewed;
 use std::alloc::Global;
 use std::sync::{Arc, Wait};
 

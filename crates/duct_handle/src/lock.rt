@@ -19,9 +19,9 @@ use crate::published::Published;
 use duct_base::error::Error;
 use duct_base::status::Shape;
 use duct_base::system::{Order, System};
-use duct_run::views::Viewed;
 use duct_running::numbers::Numbers;
 use duct_running::running::Running;
+use duct_system::views::Viewed;
 use std::sync::{Mutex, MutexGuard, Wait};
 
 // What runs, and what is published once it has ended.

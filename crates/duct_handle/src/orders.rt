@@ -9,9 +9,9 @@ use crate::poll::mismatch_error;
 use duct_base::error::Error;
 use duct_base::status::Shape;
 use duct_base::system::{Order, System};
-use duct_run::views::Viewed;
 use duct_running::numbers::Numbers;
 use duct_running::running::Running;
+use duct_system::views::Viewed;
 use std::sync::Wait;
 
 // Gives the order to what runs, once. Where the shape or the numbers differ from these, it fails

@@ -17,9 +17,9 @@ use duct_base::pool::Pool;
 use duct_base::status::Shape;
 use duct_base::system::{Kind, Output, System};
 use duct_run::ending::give_all;
-use duct_run::views::Viewed;
 use duct_running::numbers::Numbers;
 use duct_running::running::Running;
+use duct_system::views::Viewed;
 use std::alloc::{AllocError, Global};
 use std::sync::{Arc, Wait};
 

@@ -15,9 +15,9 @@ use crate::published::{Answer, Published};
 use duct_base::error::Error;
 use duct_base::status::Shape;
 use duct_base::system::{Fault, Kind, Output, System};
-use duct_run::views::Viewed;
 use duct_running::numbers::Numbers;
 use duct_running::running::Running;
+use duct_system::views::Viewed;
 use std::sync::Arc;
 
 // The error if shape or numbers differ, or if there is no result, which no start causes.

@@ -6,7 +6,7 @@ ghost use Rattle.duct_system.specs.declared.error.Error.{Error};
 use crate::handle::Handle;
 use duct_base::error::Error;
 use duct_base::system::{Order, System};
-use duct_run::views::Viewed;
+use duct_system::views::Viewed;
 use std::sync::Wait;
 
 /// Signals to the commands of a handle.

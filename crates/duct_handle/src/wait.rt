@@ -8,10 +8,10 @@ ghost use Rattle.duct_handle.specs.Deadline.{IsLate, IsTimely};
 ghost use Rattle.duct_handle.specs.Waited.{Waited, at_end};
 
 use crate::handle::{Handle, Seen};
-use crate::pause::Pause;
 use duct_base::error::Error;
+use duct_base::pause::Pause;
 use duct_base::system::{Clock, Output, System};
-use duct_run::views::Viewed;
+use duct_system::views::Viewed;
 use std::sync::{Arc, Wait};
 use std::time::Duration;
 

@@ -16,11 +16,11 @@ use crate::reader::Reader;
 use crate::spawn::{all_wired, start};
 use crate::standard::Standard;
 use duct_base::journal::Journal;
+use duct_base::spawn::{spawn_numbered_drain, spawn_numbered_feed};
 use duct_base::spec::CommandSpec;
 use duct_base::streams::{number_of, numbered_streams};
 use duct_base::system::{Entry, Fault, Kind, Numbered, Side, Stdio, System};
-use duct_worker::spawn::{spawn_numbered_drain, spawn_numbered_feed};
-use duct_worker::worker::Worker;
+use duct_base::worker::Worker;
 use std::alloc::{AllocError, Global};
 use std::fs::File;
 use std::io;
@@ -192,7 +192,7 @@ impl<R: Processes + Files<File = File> + Env + Parents + Clone + Drop> Host<R> {
 
 impl<R: Threads> Host<R> {
     ghost use Rattle.duct_system.specs.Job.{unpolled_job};
-    ghost use Rattle.duct_worker.specs.WorkerView.{worker_view};
+    ghost use Rattle.duct_base.specs.WorkerView.{worker_view};
 
     /// Starts a worker that writes the bytes to the end and closes it. Where that fails the end is
     /// closed, and nothing was written.

@@ -1,7 +1,7 @@
 //! The reader of an end.
 ghost use Rattle.std.specs.Prelude.{◌≡◌};
 
-use duct_worker::transfer::read_retried;
+use duct_base::transfer::read_retried;
 use std::io;
 use std::io::Read;
 use std::os::fd::OwnedFd;

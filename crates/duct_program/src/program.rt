@@ -13,7 +13,7 @@ ghost use Rattle.duct_program.specs.declared.failure.Failure.TheVariants as fail
 use crate::expression::line;
 use crate::failure::Failure;
 use duct::{CommandSpec, Expression, Fault, Hook, Pool, System};
-use duct_run::views::Viewed;
+use duct_system::views::Viewed;
 use std::alloc::{AllocError, Global};
 use std::io;
 use std::io::Write;

@@ -12,7 +12,7 @@ use Rattle.duct_run.specs.Commands.{ActionSucceedsWith, ActionFailsWith}
 use Rattle.duct_run.specs.ResourcesView.{ResourcesView}
 use Rattle.duct_run.specs.RunInvariant.{ActionSucceeds, IsHookError, ActionFails}
 use Rattle.duct_run.specs.Requested.{Performed, Requested}
-use Rattle.duct_run.specs.SystemViews.{SystemViews}
+use Rattle.duct_system.specs.SystemViews.{SystemViews}
 use Rattle.duct_run.specs.declared.resources.Resources.{Resources}
 use Rattle.duct_run.proofs.Spawning.{plain_refused}
 

@@ -7,7 +7,7 @@ use Rattle.duct_system.specs.declared.system.Child
 use Rattle.duct_system.specs.declared.system.Job
 use Rattle.duct_system.specs.declared.system.Numbered
 use Rattle.duct_system.specs.declared.system.System
-use Rattle.duct_run.specs.SystemViews.{SystemViews}
+use Rattle.duct_system.specs.SystemViews.{SystemViews}
 
 -- the views that the trait `Viewed` gives
 abbrev pub views_of : {S E C F D R : Type 0} → System.Ghosts S E C F D R → Numbered.Ghosts E

@@ -11,7 +11,6 @@ pub mod Requested
 pub mod ScopeView
 pub mod Settings
 pub mod StreamsView
-pub mod SystemViews
 pub mod Actions
 pub mod ActionList
 pub mod Flat

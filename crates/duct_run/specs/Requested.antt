@@ -12,7 +12,7 @@ use Rattle.duct_run.specs.Commands.{ActionSucceedsWith, ActionFailsWith, HooksFa
 use Rattle.duct_run.specs.RunContract.{PlanTail, ActionsFail, ActionsSucceed}
 use Rattle.duct_run.specs.GivesUp.{GivesUp}
 use Rattle.duct_run.specs.StreamsView.{streams_view}
-use Rattle.duct_run.specs.SystemViews.{SystemViews}
+use Rattle.duct_system.specs.SystemViews.{SystemViews}
 use Rattle.duct_run.specs.declared.resources.Resources.{Resources}
 use Rattle.duct_run.specs.declared.streams.Streams.{Streams}
 

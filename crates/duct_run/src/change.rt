@@ -6,10 +6,10 @@ ghost use Rattle.duct_run.specs.StreamsView.{many_ends};
 
 use crate::places::{find, missing_place};
 use crate::streams::{Streams, redirect};
-use crate::views::Viewed;
 use duct_base::error::Error;
 use duct_base::spec::{CommandSpec, Hook, Stream};
 use duct_base::system::System;
+use duct_system::views::Viewed;
 
 // Runs one hook on the spec, then sets the streams according to the ports of the new spec. A place
 // that the spec names is looked up among the hook's ends.

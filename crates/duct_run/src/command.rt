@@ -27,12 +27,12 @@ use crate::resources::{Resources, top};
 use crate::scope::Scope;
 use crate::settings::{Settings, settings_in};
 use crate::streams::Streams;
-use crate::views::Viewed;
 use duct_base::error::Error;
 use duct_base::exe::asks_canonical;
 use duct_base::pool::{Place, Reservation, place_new, reservation_new};
 use duct_base::spec::{CommandSpec, Hook, Port};
 use duct_base::system::{Numbered, Stdio, System};
+use duct_system::views::Viewed;
 use std::sync::Arc;
 
 // Returns the program of a command: the first of its words, or an empty text if it has none.

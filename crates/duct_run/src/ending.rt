@@ -8,9 +8,9 @@ ghost use Rattle.duct_run.specs.Requested.{PoolGets};
 ghost use Rattle.duct_run.specs.ResourceEnds.{ends_of_resources};
 
 use crate::resources::Resources;
-use crate::views::Viewed;
 use duct_base::pool::{Place, Pool, pool_take};
 use duct_base::system::{Child, System};
+use duct_system::views::Viewed;
 
 // Closes each end of a stack, from the bottom to the top.
 fn close_stack<S: System>(sys: &mut S, stack: Vec<S::End>)

@@ -15,4 +15,3 @@ mod settings;
 pub mod start;
 pub mod streams;
 pub mod variables;
-pub mod views;

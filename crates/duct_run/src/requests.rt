@@ -8,11 +8,11 @@ ghost use Rattle.duct_run.specs.ResourcesView.{open_ends};
 ghost use Rattle.duct_run.specs.Requested.{HoldsUnasked, RequestSucceeds, RequestFails, Requested, resources_of};
 
 use crate::resources::{Resources, top};
-use crate::views::Viewed;
 use duct_base::error::Error;
 use duct_base::pool::Place;
 use duct_base::spec::Hook;
 use duct_base::system::{Side, System};
+use duct_system::views::Viewed;
 use std::sync::Arc;
 
 // Opens a file for reading.

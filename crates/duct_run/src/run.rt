@@ -18,11 +18,11 @@ use crate::requests::{
 };
 use crate::resources::{Resources, make_room};
 use crate::scope::Scope;
-use crate::views::Viewed;
 use duct_base::error::Error;
 use duct_base::pool::{Place, Pool};
 use duct_base::spec::Hook;
 use duct_base::system::System;
+use duct_system::views::Viewed;
 
 // Performs one action. A spawn sweeps the pool first.
 fn perform<S: System, H: Hook>(

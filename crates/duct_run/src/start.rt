@@ -17,11 +17,11 @@ use crate::requests::finish;
 use crate::resources::Resources;
 use crate::run::perform_all;
 use crate::scope::Scope;
-use crate::views::Viewed;
 use duct_base::error::Error;
 use duct_base::pool::{Place, Pool};
 use duct_base::spec::Hook;
 use duct_base::system::{Side, System};
+use duct_system::views::Viewed;
 
 /// How a start ends.
 #[derive(Clone, Copy)]

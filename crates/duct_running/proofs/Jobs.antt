@@ -16,7 +16,7 @@ use Rattle.duct_status.specs.ShapeView.{shape_view}
 use Rattle.duct_status.specs.declared.per_side.PerSide.{PerSide}
 use Rattle.duct_status.specs.declared.status.Shape.{Shape}
 use Rattle.duct_start.specs.Running.{RunningView}
-use Rattle.duct_run.specs.SystemViews.{SystemViews}
+use Rattle.duct_system.specs.SystemViews.{SystemViews}
 use Rattle.duct_running.specs.Polled.{WhileRuns, PolledIfRuns, IsPolled, ChangedAt, StreamPolled, is_awaited}
 use Rattle.duct_running.specs.Stored.{Bytes, stored_in, stored_latest}
 

@@ -10,7 +10,7 @@ use Rattle.duct_system.specs.Job.{JobView, unpolled_job}
 use Rattle.duct_system.specs.Started.{feeds_in, drains_in}
 use Rattle.duct_start.specs.Running.{IsRunning, RunningView}
 use Rattle.duct_start.specs.TreeView.{TreeView}
-use Rattle.duct_run.specs.SystemViews.{SystemViews}
+use Rattle.duct_system.specs.SystemViews.{SystemViews}
 use Rattle.duct_running.specs.Ordered.{IsUnordered}
 use Rattle.duct_running.specs.Stored.{AreUnasked}
 

@@ -20,7 +20,7 @@ use Rattle.duct_status.specs.Latest.{Latest, latest_after}
 use Rattle.duct_status.specs.PerSide.{at_side, with_side}
 use Rattle.duct_status.specs.declared.per_side.PerSide.{PerSide}
 use Rattle.duct_status.specs.ShapeView.{ShapeView}
-use Rattle.duct_run.specs.SystemViews.{SystemViews}
+use Rattle.duct_system.specs.SystemViews.{SystemViews}
 use Rattle.duct_running.specs.Polled.{WhileRuns}
 use Rattle.duct_running.specs.Stored.{AreUnasked, Bytes, stored_latest}
 use Rattle.duct_running.specs.RunningInvariant.{RunningInvariant}

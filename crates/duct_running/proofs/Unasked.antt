@@ -15,7 +15,7 @@ use Rattle.duct_status.specs.Latest.{Latest, latest_told}
 use Rattle.duct_status.specs.ShapeView.{ShapeView, command_count, input_count}
 use Rattle.duct_status.specs.declared.status.Word.{Word}
 use Rattle.duct_status.specs.declared.status.Word.TheVariants as word
-use Rattle.duct_run.specs.SystemViews.{SystemViews}
+use Rattle.duct_system.specs.SystemViews.{SystemViews}
 use Rattle.duct_running.specs.Stored.{Bytes, AreUnasked, stored_word, stored_latest}
 
 silent : (child : ChildView) → IsUnasked child → stored_word child.ending child.last ≡ word.Running

@@ -6,7 +6,7 @@ use Rattle.duct_system.specs.Child.{ChildView}
 use Rattle.duct_system.specs.Job.{JobView}
 use Rattle.duct_status.specs.ShapeView.{ShapeView, command_count, input_count}
 use Rattle.duct_start.specs.Running.{RunningView}
-use Rattle.duct_run.specs.SystemViews.{SystemViews}
+use Rattle.duct_system.specs.SystemViews.{SystemViews}
 use Rattle.duct_running.specs.declared.numbers.Numbers.{Numbers}
 
 -- the numbers of the children from left to right, of the input workers in tree order, and of the

@@ -23,7 +23,7 @@ use Rattle.duct_system.specs.declared.system.Said.TheVariants as said
 use Rattle.duct_system.specs.declared.system.Side.{Side}
 use Rattle.duct_system.specs.declared.system.Side.TheVariants as side
 use Rattle.duct_start.specs.Running.{RunningView}
-use Rattle.duct_run.specs.SystemViews.{SystemViews}
+use Rattle.duct_system.specs.SystemViews.{SystemViews}
 use Rattle.duct_running.specs.Stored.{Bytes, stored_in}
 
 -- what a poll returns: nothing yet, an output, or an error

@@ -3,7 +3,7 @@ use Rattle.std.specs.Prelude.{◌≡◌}
 use Rattle.duct_system.specs.declared.system.Side.TheVariants.{Out, Err}
 use Rattle.duct_status.specs.ShapeView.{shape_view}
 use Rattle.duct_start.specs.Running.{RunningView}
-use Rattle.duct_run.specs.SystemViews.{SystemViews}
+use Rattle.duct_system.specs.SystemViews.{SystemViews}
 use Rattle.duct_running.specs.Polled.{ChildrenAsked, DrainPolled, FeedsPolled}
 use Rattle.duct_running.specs.Stored.{Bytes}
 

@@ -8,7 +8,7 @@ use Rattle.std.specs.declared.vec.Vec.{Vec}
 use Rattle.duct_system.specs.Child.{Answer, ChildView, IsUnasked}
 use Rattle.duct_system.specs.Job.{JobView, unpolled_job}
 use Rattle.duct_start.specs.Running.{RunningView}
-use Rattle.duct_run.specs.SystemViews.{SystemViews}
+use Rattle.duct_system.specs.SystemViews.{SystemViews}
 use Rattle.duct_status.specs.EventView.{bytes_said}
 use Rattle.duct_status.specs.Latest.{Latest}
 use Rattle.duct_status.specs.declared.status.Word.{Word}

@@ -9,7 +9,7 @@ use crate::running::Running;
 use duct_base::error::Error;
 use duct_base::status::Shape;
 use duct_base::system::{Numbered, System};
-use duct_run::views::Viewed;
+use duct_system::views::Viewed;
 use std::alloc::Global;
 
 /// The numbers of a start's children and workers.

@@ -23,7 +23,7 @@ use duct_base::pool::Place;
 use duct_base::status::{Core, Event, Reply, Word};
 use duct_base::system::{Child, ExitStatus, Fault, Job, Output, Side, System};
 use duct_run::resources::Resources;
-use duct_run::views::Viewed;
+use duct_system::views::Viewed;
 use std::marker::Model;
 use std::sync::Arc;
 

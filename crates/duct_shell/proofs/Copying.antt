@@ -7,7 +7,7 @@ use Rattle.std.specs.Io.{StartsWith}
 use Rattle.std.specs.Io.KnownBytes.{Consumes, Keeps}
 use Rattle.std.specs.declared.io.ErrorKind.{ErrorKind}
 use Rattle.std.specs.declared.option.Option.{Option}
-use Rattle.duct_worker.specs.Transfer.{Writes}
+use Rattle.duct_base.specs.Transfer.{Writes}
 use Rattle.duct_shell.specs.Copies.{Copies}
 
 -- where nothing was read, the writer got nothing

@@ -29,16 +29,16 @@ use Rattle.duct_system.specs.declared.system.Child as the_child
 use Rattle.duct_system.specs.declared.system.Job
 use Rattle.duct_system.specs.declared.system.Numbered
 use Rattle.duct_system.specs.declared.system.System
-use Rattle.duct_worker.specs.contracts.shared.ArcVecU8Shared.TheImpl as bytes_shared
-use Rattle.duct_worker.specs.contracts.shared.UnitShared.TheImpl as unit_shared
-use Rattle.duct_worker.specs.contracts.worker.Worker
-use Rattle.duct_worker.specs.declared.shared.Shared
+use Rattle.duct_base.specs.contracts.shared.ArcVecU8Shared.TheImpl as bytes_shared
+use Rattle.duct_base.specs.contracts.shared.UnitShared.TheImpl as unit_shared
+use Rattle.duct_base.specs.contracts.worker.Worker
+use Rattle.duct_base.specs.declared.shared.Shared
 use Rattle.duct_running.proofs.Threads.{running_send}
 use Rattle.duct_running.specs.contracts.running.Running
 use Rattle.duct_handle.proofs.Threads.{handle_sync}
 use Rattle.duct_handle.specs.contracts.handle.Handle
-use Rattle.duct_reader.proofs.Threads.{reader_handle_sync}
-use Rattle.duct_reader.specs.contracts.reader.ReaderHandle
+use Rattle.duct_handle.proofs.ReaderThreads.{reader_handle_sync}
+use Rattle.duct_handle.specs.contracts.reader.ReaderHandle
 use Rattle.duct_host.specs.contracts.child.Child
 use Rattle.duct_host.specs.contracts.child.Seen
 use Rattle.duct_host.specs.contracts.end.End

@@ -12,7 +12,7 @@ use Rattle.duct_system.specs.declared.error.Error.TheVariants.{Memory}
 use Rattle.duct_system.specs.declared.system.Output.{Output}
 use Rattle.duct_start.specs.Chain.{Allows, Refuses}
 use Rattle.duct_start.specs.TreeView.{TreeView, around, command, pipe, stderr_capture, stdout_capture, unchecked}
-use Rattle.duct_run.specs.SystemViews.{SystemViews}
+use Rattle.duct_system.specs.SystemViews.{SystemViews}
 use Rattle.duct_running.specs.Stored.{Bytes}
 use Rattle.duct.specs.Launched.{Fails, Launched, Returns, RunFailed, draining}
 use Rattle.duct.specs.TreeView.{tree_view}

@@ -16,8 +16,8 @@ use Rattle.duct_system.specs.declared.error.Error.TheVariants as error
 use Rattle.duct_system.specs.declared.system.Kind.TheVariants.{Other}
 use Rattle.duct_system.specs.declared.system.Output.{Output}
 use Rattle.duct_status.specs.ShapeView.{shape_view}
-use Rattle.duct_worker.specs.Transfer.{stop_fault}
-use Rattle.duct_run.specs.SystemViews.{SystemViews}
+use Rattle.duct_base.specs.Transfer.{stop_fault}
+use Rattle.duct_system.specs.SystemViews.{SystemViews}
 use Rattle.duct_running.specs.Answered.{IsAnswer}
 use Rattle.duct_running.specs.Stored.{Bytes}
 use Rattle.duct_handle.specs.HandleView.{HandleView}

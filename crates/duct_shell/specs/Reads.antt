@@ -9,7 +9,7 @@ use Rattle.duct_system.specs.declared.system.Fault.{Fault}
 use Rattle.duct_system.specs.declared.system.Output.{Output}
 use Rattle.duct_running.specs.Polled.{Polled}
 use Rattle.duct_handle.specs.Waited.{at_end}
-use Rattle.duct_reader.specs.Reads.{at_close}
+use Rattle.duct_handle.specs.Reads.{at_close}
 
 -- a read into this much room: the pipe gave some bytes, or there was no room; or the pipe failed
 -- with a fault; or it gave nothing, and the read waited for what runs, which may return this

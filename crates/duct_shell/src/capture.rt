@@ -12,7 +12,7 @@ use crate::failure::Failure;
 use crate::shell::Shell;
 use duct::tree::Node;
 use duct::{Error, Expression, Hook, Output, Pool, System};
-use duct_run::views::Viewed;
+use duct_system::views::Viewed;
 use std::sync::{Arc, Wait};
 
 /// What a run came to, with all that it wrote.

@@ -6,7 +6,7 @@ ghost use Rattle.duct_shell.specs.Converted.{EndsFor, error_read};
 ghost use Rattle.duct_shell.specs.Lines.{StepsThroughLines};
 
 use duct::{Error, Fault, Kind, Output, ReaderHandle, System};
-use duct_run::views::Viewed;
+use duct_system::views::Viewed;
 use std::alloc::Global;
 use std::io;
 use std::io::{BufRead, BufReader, ErrorKind, Read};

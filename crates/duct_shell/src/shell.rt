@@ -25,7 +25,7 @@ use duct::{
     ReaderHandle, System, cmd,
 };
 use duct_host::{Host, Parents};
-use duct_run::views::Viewed;
+use duct_system::views::Viewed;
 use duct_tasks::{Late, LateRead, Until, read_until, run_until};
 use std::alloc::Global;
 use std::fs::File;

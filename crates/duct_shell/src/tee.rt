@@ -4,8 +4,8 @@ ghost use Rattle.std.specs.Io.{ReadsAtMost, StartsWith, appended_bytes};
 ghost use Rattle.std.specs.Io.KnownBytes.{Consumes, IsAtEnd, ReadConsumes};
 ghost use Rattle.duct_shell.specs.Copies.{Copies};
 
-use duct_worker::transfer::{read_retried, write_whole};
-use duct_worker::watched::Watched;
+use duct_base::transfer::{read_retried, write_whole};
+use duct_base::watched::Watched;
 use std::io;
 use std::io::{ErrorKind, Read, Write};
 

@@ -17,9 +17,9 @@ ghost use Rattle.duct_handle.specs.Obeyed.{IsObeyed};
 use duct_base::error::Error;
 use duct_base::system::{Clock, Output, System};
 use duct_handle::handle::Handle;
+use duct_handle::reader::ReaderHandle;
 use duct_handle::unix::HandleExt;
-use duct_reader::reader::ReaderHandle;
-use duct_run::views::Viewed;
+use duct_system::views::Viewed;
 use std::sync::{Arc, Wait};
 use std::time::Duration;
 

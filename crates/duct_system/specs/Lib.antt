@@ -11,4 +11,5 @@ pub mod SpecView
 pub mod Started
 pub mod Status
 pub mod Streams
+pub mod SystemViews
 pub mod Trace

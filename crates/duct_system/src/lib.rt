@@ -10,3 +10,4 @@ pub mod same;
 pub mod spec;
 pub mod streams;
 pub mod system;
+pub mod views;

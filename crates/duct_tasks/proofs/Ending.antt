@@ -13,7 +13,7 @@ use Rattle.duct_start.specs.Running.{RunningView}
 use Rattle.duct_start.specs.TreeView.{TreeView}
 use Rattle.duct_run.proofs.Leaving.{takes_in}
 use Rattle.duct_run.specs.Requested.{PoolGets}
-use Rattle.duct_run.specs.SystemViews.{SystemViews}
+use Rattle.duct_system.specs.SystemViews.{SystemViews}
 use Rattle.duct_running.specs.Answered.{IsConcludedPoll, ReturnsConclusion}
 use Rattle.duct_running.specs.NumbersView.{NumbersView, numbers_of}
 use Rattle.duct_running.specs.Stored.{Bytes}

@@ -7,7 +7,7 @@ use Rattle.duct_base.specs.Pool.{PoolView, counted}
 use Rattle.duct_system.specs.declared.error.Error.{Error}
 use Rattle.duct_start.specs.Chain.{Allows, Refuses}
 use Rattle.duct_start.specs.Running.{RunningView}
-use Rattle.duct_run.specs.SystemViews.{SystemViews}
+use Rattle.duct_system.specs.SystemViews.{SystemViews}
 use Rattle.duct_running.specs.Stored.{Bytes}
 use Rattle.duct.specs.declared.expression.Expression.{Expression}
 use Rattle.duct_tasks.specs.Turns.{AreEnds, End, EndsWith, Goes, GoesOn, InTurn, RanAll, Turn, failed_of}

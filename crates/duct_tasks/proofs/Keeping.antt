@@ -6,7 +6,7 @@ use Rattle.duct_base.proofs.Sieving.{counted_more}
 use Rattle.duct_base.specs.Pool.{PoolView, counted}
 use Rattle.duct_start.specs.Chain.{Allows, Refuses}
 use Rattle.duct_start.specs.Running.{RunningView}
-use Rattle.duct_run.specs.SystemViews.{SystemViews}
+use Rattle.duct_system.specs.SystemViews.{SystemViews}
 use Rattle.duct_running.specs.NumbersView.{numbers_of}
 use Rattle.duct_running.specs.Stored.{Bytes}
 use Rattle.duct.specs.declared.expression.Expression.{Expression}

@@ -3,7 +3,7 @@ use Rattle.std.proofs.Common.{refl, ◌∙◌, inl}
 use Rattle.duct_system.specs.Child.{ChildView}
 use Rattle.duct_system.specs.Job.{JobView}
 use Rattle.duct_start.specs.Running.{RunningView}
-use Rattle.duct_run.specs.SystemViews.{SystemViews}
+use Rattle.duct_system.specs.SystemViews.{SystemViews}
 use Rattle.duct_running.specs.Allowed.{StoresAllowed}
 use Rattle.duct_running.specs.Answered.{ReturnsConclusion}
 use Rattle.duct_running.specs.Polled.{Polled, ReturnsOutcome}

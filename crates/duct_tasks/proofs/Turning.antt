@@ -11,7 +11,7 @@ use Rattle.duct_status.specs.ShapeView.{ShapeView, shape_view}
 use Rattle.duct_start.specs.Chain.{Allows, Refuses}
 use Rattle.duct_start.specs.Running.{RunningView}
 use Rattle.duct_start.specs.ShapeOfTree.{shape_of_tree}
-use Rattle.duct_run.specs.SystemViews.{SystemViews}
+use Rattle.duct_system.specs.SystemViews.{SystemViews}
 use Rattle.duct_running.specs.Answered.{IsConcludedPoll, ReturnsConclusion}
 use Rattle.duct_running.specs.NumbersView.{NumbersView, numbers_of}
 use Rattle.duct_running.specs.Stored.{Bytes}

@@ -29,7 +29,7 @@ use Rattle.duct_start.specs.Plan.{plan_of}
 use Rattle.duct_start.specs.ShapeOfTree.{shape_of_tree}
 use Rattle.duct_start.specs.Start.{StartSucceeds}
 use Rattle.duct_start.specs.TreeView.{TreeView, around, stdout_capture}
-use Rattle.duct_run.specs.SystemViews.{SystemViews}
+use Rattle.duct_system.specs.SystemViews.{SystemViews}
 use Rattle.duct_running.specs.Allowed.{OneRuns}
 use Rattle.duct_running.specs.Answered.{IsConcludedPoll}
 use Rattle.duct_running.specs.NumbersView.{NumbersView, numbers_of}
@@ -39,7 +39,7 @@ use Rattle.duct_running.specs.Polled.{ReturnsOutcome}
 use Rattle.duct_running.specs.PolledOnce.{PolledOnce}
 use Rattle.duct_handle.specs.Started.{AreNumbers}
 use Rattle.duct_handle.specs.Waited.{at_end}
-use Rattle.duct_reader.specs.Trimmed.{trimmed}
+use Rattle.duct_handle.specs.Trimmed.{trimmed}
 use Rattle.duct.specs.Launched.{MadeBy, Returns, Runs, StartKind, added_between, draining, drains_error, drains_output, Fails, Launched, RunFailed}
 use Rattle.duct.specs.TreeView.{tree_view}
 use Rattle.duct.specs.declared.expression.Expression.{Expression}

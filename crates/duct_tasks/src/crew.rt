@@ -8,8 +8,8 @@ use duct_base::error::Error;
 use duct_base::pool::Pool;
 use duct_base::spec::Hook;
 use duct_base::system::{Output, System};
-use duct_run::views::Viewed;
 use duct_running::running::Running;
+use duct_system::views::Viewed;
 use std::alloc::{AllocError, Global};
 use std::sync::Arc;
 

@@ -5,7 +5,7 @@ ghost use Rattle.duct_tasks.specs.Turns.{Attempts, IsRun, IsStart};
 
 use crate::repeated::attempts;
 use duct::{Error, Expression, Handle, Hook, Output, Pool, System};
-use duct_run::views::Viewed;
+use duct_system::views::Viewed;
 use std::sync::Wait;
 
 /// Starts an expression as `Expression::start` does, and again each time that the start fails with

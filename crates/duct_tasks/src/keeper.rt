@@ -10,7 +10,7 @@ use duct_base::error::Error;
 use duct_base::pool::Pool;
 use duct_base::spec::Hook;
 use duct_base::system::{Clock, Output, System};
-use duct_run::views::Viewed;
+use duct_system::views::Viewed;
 use std::sync::{Arc, Wait};
 use std::time::Duration;
 
@@ -59,13 +59,13 @@ fn longer(pause: Duration, restarts: &Restarts) -> Duration {
     }
 }
 
-/// Starts the expression as `Expression::launch` does, polls it each millisecond until it has
-/// ended, and then, after a pause, starts it again, whether it succeeded or failed. It never starts
-/// it while a command of it may still run, and never more than `restarts.most` times.
+/// Starts the expression as `Expression::launch` does, polls it as `Expression::run` does until it
+/// has ended, and then, after a pause, starts it again, whether it succeeded or failed. It never
+/// starts it while a command of it may still run, and never more than `restarts.most` times.
 ///
-/// `stop` says whether to stop. It is asked before each start, at each poll, and each millisecond
-/// of a pause. What runs then is sent signal 15, and what is not known to have ended after the
-/// grace is killed. Nothing waits for what was killed.
+/// `stop` says whether to stop. It is asked before each start, at each poll, and as often in a
+/// pause. What runs then is sent signal 15, and what is not known to have ended after the grace is
+/// killed. Nothing waits for what was killed.
 ///
 /// `tell` is called with the place of a start, from 0 on, where it starts and where it ends. A kill
 /// is not told.

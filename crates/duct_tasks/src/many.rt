@@ -4,18 +4,16 @@ ghost use Rattle.duct_system.specs.declared.error.Error.TheVariants.{Memory};
 ghost use Rattle.duct_tasks.specs.Turns.{Goes, GoesOn, RanAll};
 
 use crate::crew::Crew;
-use crate::watch::PAUSE;
 use duct::Expression;
 use duct_base::error::Error;
+use duct_base::pause::Pause;
 use duct_base::pool::Pool;
 use duct_base::spec::Hook;
 use duct_base::system::{Output, System};
-use duct_run::views::Viewed;
 use duct_running::running::Running;
+use duct_system::views::Viewed;
 use std::alloc::Global;
 use std::sync::{Arc, Wait};
-use std::thread::Parker;
-use std::time::Duration;
 
 /// What becomes of the other tasks once one has failed.
 #[derive(Clone, Copy, Debug, PartialEq, Eq, Drop)]
@@ -47,9 +45,10 @@ pub enum Progress<'a> {
 
 /// Starts the tasks in order, each as `Expression::launch` does, and never while as many run as the
 /// limit allows: a task runs until a poll has said how it ended. Between two rounds of polls it
-/// pauses for a millisecond. Returns how the tasks ended that were started, each in its place: as
-/// many as there are tasks, unless a failure ended the starts. A task fails where `Expression::run`
-/// would, also where it can't be started; the children of such a task are given to the pool.
+/// pauses as `Expression::run` does. Returns how the tasks ended that were started, each in its
+/// place: as many as there are tasks, unless a failure ended the starts. A task fails where
+/// `Expression::run` would, also where it can't be started; the children of such a task are given
+/// to the pool.
 ///
 /// `tell` is called with the place of a task where it starts and where it ends.
 ///
@@ -98,14 +97,14 @@ fn work<H: Hook, S: System, T: Fn(usize, Progress<'_>)>(
     ensures over { (length crew.new.tasks.all.now ≤ length crew.new.started.items)
         ⊎ (GoesOn crew.new.tasks.at_failure crew.new.failed → ⊥) }
 {
-    let parker = Parker::new();
+    let mut pauses = Pause::new();
     for _ in rt.forever() {
         crew.start_more(tell, sys, pool);
         if !crew.is_busy() {
             return;
         }
         crew.stop_after_failure();
-        parker.park_timeout(rt, Duration::from_micros(PAUSE));
+        pauses.rest(rt);
         crew.poll_all(tell, pool);
     }
     unreachable!()

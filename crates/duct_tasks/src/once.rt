@@ -8,16 +8,16 @@ ghost use Rattle.duct_tasks.specs.Turns.{IsOver, Runs, StoppedIf, last_of, RunsA
 
 use crate::many::Progress;
 use crate::task::{is_failure, spend};
-use crate::watch::{PAUSE, ask, kill, watch};
+use crate::watch::{ask, kill, watch};
 use duct::Expression;
 use duct_base::error::Error;
+use duct_base::pause::Pause;
 use duct_base::pool::Pool;
 use duct_base::spec::Hook;
 use duct_base::system::{Clock, Output, System};
-use duct_run::views::Viewed;
 use duct_running::running::Running;
+use duct_system::views::Viewed;
 use std::sync::{Arc, Wait};
-use std::thread::Parker;
 use std::time::Duration;
 
 /// How a run came to its end.
@@ -38,14 +38,14 @@ pub(crate) fn pause<C: Clock, F: Fn() -> bool>(
     requires { F.IsAlwaysCallable stop.now }
     ensures { F.post stop.now result }
 {
-    let parker = Parker::new();
+    let mut pauses = Pause::new();
     let end = clock.now().saturating_add(pause);
     for _ in rt.forever() {
         let stops = stop();
         if stops || end <= clock.now() {
             return stops;
         }
-        parker.park_timeout(rt, Duration::from_micros(PAUSE));
+        pauses.rest(rt);
     }
     unreachable!()
 }

@@ -7,18 +7,18 @@ ghost use Rattle.duct_tasks.specs.Until.{HasReached, IfDone, IfLate, UnlessEnded
 
 use crate::late::{LateRead, Until};
 use crate::run::launch_until;
-use crate::watch::{PAUSE, is_over};
+use crate::watch::is_over;
 use duct::Expression;
 use duct_base::error::Error;
+use duct_base::pause::Pause;
 use duct_base::pool::Pool;
 use duct_base::spec::Hook;
 use duct_base::system::{Clock, Job, Said, System};
-use duct_reader::text::text_of;
+use duct_handle::text::text_of;
 use duct_run::ending::give_all;
-use duct_run::views::Viewed;
+use duct_system::views::Viewed;
 use std::alloc::Global;
 use std::sync::{Arc, Wait};
-use std::thread::Parker;
 use std::time::Duration;
 
 /// How long the pipe of a killed expression gets to come to EOF, in seconds.
@@ -36,7 +36,7 @@ fn bytes_until<D: Job<Result = Arc<Vec<u8>>>, C: Clock>(
     ensures late { IfNone result (HasReached (C.may_show clock.now) (as_nanos moment)
         ⊎ ((fault : Fault) × D.may_say (D.job_view worker).number (said.Fault fault))) }
 {
-    let parker = Parker::new();
+    let mut pauses = Pause::new();
     for _ in rt.forever() {
         match worker.poll() {
             Said::Done(bytes) => return Some(bytes),
@@ -46,7 +46,7 @@ fn bytes_until<D: Job<Result = Arc<Vec<u8>>>, C: Clock>(
         if is_over(clock, moment) {
             return None;
         }
-        parker.park_timeout(rt, Duration::from_micros(PAUSE));
+        pauses.rest(rt);
     }
     unreachable!()
 }

@@ -19,8 +19,8 @@ use duct_base::pool::Pool;
 use duct_base::spec::Hook;
 use duct_base::system::{Clock, Output, System};
 use duct_handle::finish::finish;
-use duct_run::views::Viewed;
 use duct_running::running::Running;
+use duct_system::views::Viewed;
 use std::alloc::Global;
 use std::sync::{Arc, Wait};
 use std::time::Duration;
@@ -112,10 +112,10 @@ pub(crate) fn launch_until<E: Drop, H: Hook, S: System<End = E>, C: Clock>(
 /// order finds no memory to be noted gets the other one alone, or none. An allocation failure of a
 /// poll doesn't end the grace: it is polled again.
 ///
-/// The call blocks until then, and returns late by the pause between two polls, a millisecond, and
-/// by as long as the signal takes: over a `Host` that waits for a shell for each command. What the
-/// commands started themselves gets no order, and is not waited for beyond the grace: where it
-/// holds a capture pipe, the expression is late with all its commands ended.
+/// The call blocks until then, and returns late by the pause between two polls, at most 10
+/// milliseconds, and by as long as the signal takes: over a `Host` that waits for a shell for each
+/// command. What the commands started themselves gets no order, and is not waited for beyond the
+/// grace: where it holds a capture pipe, the expression is late with all its commands ended.
 ///
 /// Fails as `run` does, and leaves the same: where a fault ends the wait in time, its commands may
 /// run on in the pool, without an order.

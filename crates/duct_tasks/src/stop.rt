@@ -10,8 +10,8 @@ ghost use Rattle.duct_tasks.specs.Turns.{RunsAlike};
 use crate::late::Late;
 use crate::watch::{ask, is_over, kill, watch};
 use duct_base::system::{Child, Clock, System};
-use duct_run::views::Viewed;
 use duct_running::running::Running;
+use duct_system::views::Viewed;
 use std::sync::Wait;
 use std::time::Duration;
 

@@ -16,15 +16,12 @@ ghost use Rattle.duct_tasks.specs.Turns.{RunsAlike};
 
 use crate::late::TERMINATE;
 use duct_base::error::Error;
+use duct_base::pause::Pause;
 use duct_base::system::{Clock, Output, System};
-use duct_run::views::Viewed;
 use duct_running::running::Running;
+use duct_system::views::Viewed;
 use std::sync::{Arc, Wait};
-use std::thread::Parker;
 use std::time::Duration;
-
-/// How long a wait pauses between two polls, in microseconds.
-pub(crate) const PAUSE: u64 = 1_000;
 
 // Returns whether the clock shows this moment or a later one.
 pub(crate) fn is_over<C: Clock>(clock: &C, moment: Duration) -> bool
@@ -114,14 +111,14 @@ pub(crate) fn watch<S: System, F: Fn() -> bool>(
         → IfSome result (λ end. at_end end ≡ Err error.Memory → F.post stop.now true) }
     ensures runs { IfNone result (HasNotEnded ⟦<S as Viewed>⟧.views running.new) }
 {
-    let parker = Parker::new();
+    let mut pauses = Pause::new();
     for _ in rt.forever() {
         let end = ended(running);
         if is_final(&end, is_patient) || stop() {
             return end;
         }
         drop(end);
-        parker.park_timeout(rt, Duration::from_micros(PAUSE));
+        pauses.rest(rt);
     }
     unreachable!()
 }

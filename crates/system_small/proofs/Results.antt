@@ -43,7 +43,7 @@ use Rattle.duct_running.specs.Stored.{Bytes, stored_latest, stored_word}
 use Rattle.duct_handle.specs.Started.{AreNumbers}
 use Rattle.duct_handle.specs.Waited.{at_end}
 use Rattle.duct_handle.proofs.Polling.{failure_concluded, output_concluded}
-use Rattle.duct_reader.specs.Trimmed.{trimmed}
+use Rattle.duct_handle.specs.Trimmed.{trimmed}
 use Rattle.system_small.specs.Exits.{IsRun, IsUnnoted, IsWait}
 use Rattle.system_small.specs.Told.{MayAnswer, MayDrain, MayFeed, MayObey, captured_if, exit_of, printed}
 

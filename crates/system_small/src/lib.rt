@@ -16,13 +16,13 @@ ghost use Rattle.duct_system.specs.Streams.{ends_of, stream_of};
 ghost use Rattle.system_small.specs.ChildView.{child_view};
 ghost use Rattle.system_small.specs.Told.{MayAnswer, MayDrain, MayObey, printed};
 
+use duct_base::worker::Worker;
 use duct_system::journal::Journal;
 use duct_system::spec::CommandSpec;
 use duct_system::streams::numbered_streams;
 use duct_system::system::{
     Child, Entry, ExitStatus, Fault, Job, Kind, Numbered, Order, Said, Side, Stdio, System,
 };
-use duct_worker::worker::Worker;
 use std::io::Cursor;
 use std::sync::Arc;
 

@@ -11,8 +11,8 @@ use denote.Struct.Tuple.{TupleAt, type_at}
 use Rattle.duct_system.proofs.Threads.{two_refs_send}
 use Rattle.duct_handle.proofs.Threads.{handle_sync}
 use Rattle.duct_handle.specs.contracts.handle.Handle
-use Rattle.duct_reader.proofs.Threads.{reader_handle_sync}
-use Rattle.duct_reader.specs.contracts.reader.ReaderHandle
+use Rattle.duct_handle.proofs.ReaderThreads.{reader_handle_sync}
+use Rattle.duct_handle.specs.contracts.reader.ReaderHandle
 use Rattle.duct_script.proofs.Threads.{drain_send}
 use Rattle.duct_script.proofs.child.ScriptChild.TheSendSync as child
 use Rattle.duct_script.proofs.job.ScriptFeed.TheSendSync as feed

@@ -1,9 +1,9 @@
 //! Tests of workers on their threads: they run beside their caller, and each later poll returns the
 //! same result.
+use duct_base::spawn::{spawn_drain, spawn_feed};
 use duct_base::system::{Job, Numbered, Said, System};
+use duct_base::worker::Worker;
 use duct_script::{Gate, Gated, Script};
-use duct_worker::spawn::{spawn_drain, spawn_feed};
-use duct_worker::worker::Worker;
 use rows_table::{TableError, heard, set_system, until};
 use std::alloc::Global;
 use std::rt::Clock;

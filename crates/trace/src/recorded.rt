@@ -9,7 +9,7 @@ ghost use Rattle.duct_replay.specs.RecordingView.{RecordingView};
 use duct::Hook;
 use duct_program::{NoHook, Program, path_and_words, perform};
 use duct_replay::{Records, Variables, recording_text};
-use duct_run::views::Viewed;
+use duct_system::views::Viewed;
 use std::alloc::Global;
 use std::fs::{OpenFile, OpenOptions, Permissions};
 use std::io::{self, Write};

@@ -17,7 +17,7 @@ use duct_program::{NoHook, Program, Usage, line, path_and_words, perform, text_a
 use duct_replay::{
     Recording, Refusal, Replay, ReplayEnd, ReplayReader, Verdict, judge, read_recording,
 };
-use duct_run::views::Viewed;
+use duct_system::views::Viewed;
 use duct_shell::RequestText;
 use std::alloc::{AllocError, Global};
 use std::io::{Read, Write};

@@ -10,7 +10,7 @@ use duct_base::error::Error;
 use duct_base::pool::Pool;
 use duct_base::system::{Child, Fault, Order, System};
 use duct_run::ending::give_all;
-use duct_run::views::Viewed;
+use duct_system::views::Viewed;
 
 // Gives a child an order.
 fn give<C: Child>(child: &mut C, order: Order) -> Result<(), Fault>

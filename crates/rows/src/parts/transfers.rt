@@ -1,7 +1,7 @@
 //! Feeds and drains over a stream that follows the words of a script.
 use crate::parts::Parts;
 use duct_base::system::{Fault, Kind};
-use duct_worker::transfer::{drain, feed};
+use duct_base::transfer::{drain, feed};
 use rows_table::{ERROR_KINDS, TableError, first_word, named};
 use std::alloc::{AllocError, Global};
 use std::io::{self, ErrorKind, Read, Write};

@@ -3,13 +3,13 @@ use Rattle.std.specs.declared.result.Result.{Result}
 use Rattle.std.proofs.Common.{arith, inl, inr}
 use Rattle.duct_system.specs.declared.error.Error.{Error}
 use Rattle.duct_status.specs.ShapeView.{shape_view}
-use Rattle.duct_run.specs.SystemViews.{SystemViews}
+use Rattle.duct_system.specs.SystemViews.{SystemViews}
 use Rattle.duct_run.proofs.Seeing.{views_of}
 use Rattle.duct_running.specs.Answered.{IsAnswer}
 use Rattle.duct_running.specs.Polled.{Polled}
 use Rattle.duct_running.specs.Stored.{Bytes}
 use Rattle.duct_handle.specs.HandleView.{HandleView, SeenView}
-use Rattle.duct_reader.specs.Reads.{ReadsAs}
+use Rattle.duct_handle.specs.Reads.{ReadsAs}
 use Rattle.duct_shell.specs.Reads.{HasOutput, ReadsOnce}
 use Rattle.duct_shell.proofs.threads.ReaderHandleSharedReader.read.Goals as goal
 

@@ -1,4 +1,0 @@
-pub mod ErrorKinds
-pub mod Reads
-pub mod ReadsText
-pub mod Trimmed

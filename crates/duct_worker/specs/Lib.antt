@@ -1,3 +1,0 @@
-pub mod Transfer
-pub mod Word
-pub mod WorkerView
