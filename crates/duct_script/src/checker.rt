@@ -2,13 +2,13 @@
 //! the trace, and where an end comes from.
 ghost use Rattle.std.specs.Prelude.{◌≡◌, ◌++◌, ◌↔◌, map, IfOk, OnOk, IsTrue};
 ghost use Rattle.duct_system.specs.EntryView.{entry_view};
-ghost use Rattle.duct_system.specs.Trace.{trace, is_traced, fault_of};
+ghost use Rattle.duct_system.specs.Trace.{trace, is_traced};
 ghost use Rattle.duct_system.specs.Ledger.{opened_numbers, opened_by, spent_numbers, spent_by, count_of, IsBalanced, open_count};
 ghost use Rattle.duct_system.specs.Origin.{origin};
 ghost use Rattle.duct_system.specs.Streams.{ends_of};
 ghost use Rattle.duct_script.specs.Checker.{Balances, BalancesAt, AllBalance, origin_of, Steps};
 
-use duct_system::system::{Entry, Fault, Side, Stdio};
+use duct_system::system::{Entry, Side, Stdio};
 use std::alloc::{AllocError, Global};
 
 /// Where an end comes from.
@@ -212,23 +212,4 @@ fn push_ends(numbers: &mut Vec<u64>, io: &[Stdio<u64>; 3]) -> Result<(), AllocEr
         }
     }
     Ok(())
-}
-
-/// Returns the fault of an entry, if its request was refused.
-pub fn fault_of(entry: &Entry) -> Option<Fault>
-    ensures { result ≡ fault_of (entry_view entry.now) }
-{
-    match entry {
-        Entry::Environment(Err(fault)) => Some(*fault),
-        Entry::Pipe(Err(fault)) => Some(*fault),
-        Entry::OpenRead(_, Err(fault)) => Some(*fault),
-        Entry::Create(_, Err(fault)) => Some(*fault),
-        Entry::Duplicate(_, Err(fault)) => Some(*fault),
-        Entry::Parent(_, Err(fault)) => Some(*fault),
-        Entry::Canonicalize(_, Err(fault)) => Some(*fault),
-        Entry::Spawn(_, _, Err(fault)) => Some(*fault),
-        Entry::Feed(_, _, Err(fault)) => Some(*fault),
-        Entry::Drain(_, Err(fault)) => Some(*fault),
-        _ => None,
-    }
 }

@@ -19,8 +19,7 @@ mod text;
 pub use answers::Answers;
 pub use calls::{Call, CallLog};
 pub use checker::{
-    Source, fault_of, in_trace, is_balanced, open_count, opened_numbers, origin, spent_numbers,
-    trace,
+    Source, in_trace, is_balanced, open_count, opened_numbers, origin, spent_numbers, trace,
 };
 pub use child::{ChildScript, PollAnswer, ScriptChild};
 pub use clock::ScriptClock;

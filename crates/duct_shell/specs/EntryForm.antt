@@ -3,11 +3,10 @@ use Rattle.std.specs.Prelude.{ℕ, List, [], ◌∷◌, ◌++◌, codes, Some, N
 use Rattle.std.specs.Fmt.{decimal}
 use Rattle.std.specs.declared.option.Option.{Option}
 use Rattle.duct_system.specs.EntryView.{EntryView, Environment, Pipe, OpenRead, Create, Duplicate, Parent, Canonicalize, Spawn, Feed, Drain, Reader, Close}
+use Rattle.duct_system.specs.Kinds.{kind_name}
 use Rattle.duct_system.specs.SpecView.{SpecView}
 use Rattle.duct_system.specs.Trace.{fault_of}
 use Rattle.duct_system.specs.declared.system.Fault.{Fault}
-use Rattle.duct_system.specs.declared.system.Kind.{Kind}
-use Rattle.duct_system.specs.declared.system.Kind.TheVariants.{NotFound, PermissionDenied, BrokenPipe, WriteZero, InvalidInput, Unsupported, OutOfMemory, Other}
 use Rattle.duct_system.specs.declared.system.Side.TheVariants.{Out, Err}
 use Rattle.duct_tree.specs.Text.{Form, plain, quote, before, joined, form_text, is_form_printable}
 
@@ -55,17 +54,6 @@ request_form (Feed end bytes answer) = of_end (codes "input worker of end ") end
 request_form (Drain end answer) = of_end (codes "capture worker of end ") end
 request_form (Reader end) = of_end (codes "reader of end ") end
 request_form (Close end) = of_end (codes "close of end ") end
-
--- the name of a kind of fault
-abbrev pub kind_name : Kind → List ℕ
-kind_name NotFound = codes "NotFound"
-kind_name PermissionDenied = codes "PermissionDenied"
-kind_name BrokenPipe = codes "BrokenPipe"
-kind_name WriteZero = codes "WriteZero"
-kind_name InvalidInput = codes "InvalidInput"
-kind_name Unsupported = codes "Unsupported"
-kind_name OutOfMemory = codes "OutOfMemory"
-kind_name Other = codes "Other"
 
 -- a colon and the kind of a fault, if there is one
 abbrev pub fault_form : Option Fault → Form

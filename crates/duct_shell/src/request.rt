@@ -4,18 +4,18 @@ ghost use Rattle.std.specs.Fmt.{DisplaysOnOk};
 ghost use Rattle.std.specs.Option.{option_map};
 ghost use Rattle.duct_system.specs.EntryView.{entry_view};
 ghost use Rattle.duct_system.specs.Journal.{JournalView};
-ghost use Rattle.duct_system.specs.Trace.{fault_of, is_close, segment};
+ghost use Rattle.duct_system.specs.Trace.{segment};
 ghost use Rattle.duct_system.specs.declared.error.Error.{Error};
 ghost use Rattle.duct_start.specs.Plan.{Plan};
 ghost use Rattle.duct_start.specs.Start.{StartRefused};
 ghost use Rattle.duct_start.specs.TreeView.{TreeView};
 ghost use Rattle.duct_tree.specs.Text.{printed};
-ghost use Rattle.duct_shell.specs.EntryForm.{arguments_form, entry_form, kind_name, request_form, spawn_form, request_text, entry_text};
+ghost use Rattle.duct_shell.specs.EntryForm.{arguments_form, entry_form, request_form, spawn_form, request_text, entry_text};
 ghost use Rattle.duct_shell.specs.FailedRequest.{Explains, IsTextOf, failed_request, last_asked};
 
 use duct_system::error::Error;
 use duct_system::spec::{CommandSpec, Hook};
-use duct_system::system::{Entry, Fault, Kind, Side, System};
+use duct_system::system::{Entry, Side, System};
 use std::alloc::{AllocError, Global};
 use std::fmt;
 
@@ -29,7 +29,7 @@ pub fn failed_request(entries: &[Entry]) -> Option<&Entry>
         ≡ failed_request (map entry_view entries.now) }
 {
     let last = last_asked(entries)?;
-    fault_of(last)?;
+    last.fault()?;
     Some(last)
 }
 
@@ -49,38 +49,12 @@ fn last_asked(entries: &[Entry]) -> Option<&Entry>
 {
     let mut rest = entries;
     while let Some((last, earlier)) = rest.split_last() {
-        if !is_close(last) {
+        if !last.is_close() {
             return Some(last);
         }
         rest = earlier;
     }
     None
-}
-
-// Returns whether an entry is a close.
-fn is_close(entry: &Entry) -> bool
-    ensures { result ≡ is_close (entry_view entry.now) }
-{
-    matches!(entry, Entry::Close(_))
-}
-
-// Returns the fault of an entry, if the system refused its request.
-fn fault_of(entry: &Entry) -> Option<Fault>
-    ensures { result ≡ fault_of (entry_view entry.now) }
-{
-    match entry {
-        Entry::Environment(Err(fault))
-        | Entry::Pipe(Err(fault))
-        | Entry::OpenRead(_, Err(fault))
-        | Entry::Create(_, Err(fault))
-        | Entry::Duplicate(_, Err(fault))
-        | Entry::Parent(_, Err(fault))
-        | Entry::Canonicalize(_, Err(fault))
-        | Entry::Spawn(_, _, Err(fault))
-        | Entry::Feed(_, _, Err(fault))
-        | Entry::Drain(_, Err(fault)) => Some(*fault),
-        _ => None,
-    }
 }
 
 /// Returns the text of the request that made a start fail, if `failed_request` finds one in these
@@ -142,8 +116,8 @@ fn write_entry<W: fmt::Write>(entry: &Entry, f: &mut fmt::Formatter<W>) -> fmt::
         (printed (entry_form (entry_view entry.now))) f.new }
 {
     write_request(entry, f)?;
-    match fault_of(entry) {
-        Some(fault) => write!(f, ": {}", kind_name(fault.kind)),
+    match entry.fault() {
+        Some(fault) => write!(f, ": {}", fault.kind.name()),
         None => Ok(()),
     }
 }
@@ -199,20 +173,4 @@ pub fn write_arguments<W: fmt::Write>(
         write!(f, " {argument:?}")?;
     }
     Ok(())
-}
-
-// Returns the name of a kind of fault.
-fn kind_name(kind: Kind) -> &'static str
-    ensures { result.now ≡ kind_name kind }
-{
-    match kind {
-        Kind::NotFound => "NotFound",
-        Kind::PermissionDenied => "PermissionDenied",
-        Kind::BrokenPipe => "BrokenPipe",
-        Kind::WriteZero => "WriteZero",
-        Kind::InvalidInput => "InvalidInput",
-        Kind::Unsupported => "Unsupported",
-        Kind::OutOfMemory => "OutOfMemory",
-        Kind::Other => "Other",
-    }
 }

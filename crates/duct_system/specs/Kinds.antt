@@ -1,4 +1,6 @@
--- The kind of fault that an error of std becomes, and the kind of std's error of a kind of fault.
+-- The kind of fault that an error of std becomes, the kind of std's error of a kind of fault, and
+-- its name.
+use Rattle.std.specs.Prelude.{ℕ, List, codes}
 use Rattle.std.specs.declared.io.ErrorKind.{ErrorKind}
 use Rattle.std.specs.declared.io.ErrorKind.TheVariants as error
 use Rattle.duct_system.specs.declared.system.Kind.{Kind}
@@ -25,3 +27,14 @@ name_of InvalidInput = error.InvalidInput
 name_of Unsupported = error.Unsupported
 name_of OutOfMemory = error.OutOfMemory
 name_of Other = error.Other
+
+-- the name of a kind of fault
+abbrev pub kind_name : Kind → List ℕ
+kind_name NotFound = codes "NotFound"
+kind_name PermissionDenied = codes "PermissionDenied"
+kind_name BrokenPipe = codes "BrokenPipe"
+kind_name WriteZero = codes "WriteZero"
+kind_name InvalidInput = codes "InvalidInput"
+kind_name Unsupported = codes "Unsupported"
+kind_name OutOfMemory = codes "OutOfMemory"
+kind_name Other = codes "Other"

@@ -2,6 +2,7 @@
 #![tactic(auto)]
 
 pub mod copy;
+mod entry;
 pub mod error;
 mod fault;
 pub mod journal;

@@ -3,7 +3,7 @@ use crate::scenes::{Bench, FIRST};
 use crate::stop::TableError;
 use duct::{CommandSpec, Entry, Pool, Stdio, System};
 use duct_script::{
-    Call, CallLog, Sort, Source, Words, fault_of, opened_numbers, origin, spent_numbers, trace,
+    Call, CallLog, Sort, Source, Words, opened_numbers, origin, spent_numbers, trace,
 };
 use std::alloc::{AllocError, Global};
 use std::slice;
@@ -61,7 +61,7 @@ impl Tracing<'_> {
     fn push(&mut self, entry: &Entry) -> Result<(), TableError> {
         begin(self.text)?;
         self.push_request(entry)?;
-        match fault_of(entry) {
+        match entry.fault() {
             Some(fault) => Ok(write!(self.text, " refused={:?}", fault.kind)?),
             None => Ok(()),
         }
