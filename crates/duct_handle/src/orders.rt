@@ -37,7 +37,7 @@ pub(crate) fn ordered<S: System>(
 }
 
 impl<S: System> Handle<S> {
-    /// Kills each command that is not known as ended, from left to right. Where one can't be
+    /// Kills each command that is not known as ended, from right to left. Where one can't be
     /// killed, the others still are.
     ///
     /// It doesn't wait until they have ended: a wait or a poll reaps them. It doesn't reach what

@@ -1,5 +1,5 @@
--- One order to a child, and the orders to all children in turn.
-use Rattle.std.specs.Prelude.{ℕ, zero, Bool, true, false, List, [], ◌∷◌, ◌++◌, map, length, get_or, set, slice_get, MatchOption, Ok, Err, None}
+-- One order to a child, and the orders to all children in turn, from the last one on.
+use Rattle.std.specs.Prelude.{ℕ, zero, suc, Bool, true, false, List, [], ◌∷◌, map, length, get_or, set, slice_get, MatchOption, Ok, Err, None}
 use Rattle.std.specs.declared.option.Option.{Option}
 use Rattle.std.specs.Result.{result_and}
 use Rattle.std.proofs.Common.{◌≡◌, ◌<◌, ◌≤◌, refl, ap, sym, ◌∙◌, subst, arith, inl, inr}
@@ -69,44 +69,36 @@ module _ (may : ℕ → Order → Bool → Obeyed → Type 0) (order : Order) wh
         is ∙ ap (λ (ws : List Word). record (stored items) { commands = ws })
         (sym (same_at view (λ c. said c) items at before after (within view items children at same low) found (word_kept (view before) (view after) answer orders)))
 
-  -- the first children were given the order, with these results, and the others are as before
-  abbrev pub OrderedTo : List ChildView → List Obeyed → List ChildView → Type 0
-  OrderedTo befores [] afters = afters ≡ befores
-  OrderedTo [] (answer ∷ answers) afters = ⊥
-  OrderedTo (before ∷ befores) (answer ∷ answers) [] = ⊥
-  OrderedTo (before ∷ befores) (answer ∷ answers) (after ∷ afters) = OrderedIfDue may order before answer after × OrderedTo befores answers afters
+  -- the children from this place on were given the order, with these results, and those before it
+  -- are as they were
+  abbrev pub OrderedFrom : ℕ → List ChildView → List Obeyed → List ChildView → Type 0
+  OrderedFrom zero befores answers afters = AllOrdered may order befores answers afters
+  OrderedFrom (suc at) [] answers afters = ⊥
+  OrderedFrom (suc at) (before ∷ befores) answers [] = ⊥
+  OrderedFrom (suc at) (before ∷ befores) answers (after ∷ afters) = (after ≡ before) × OrderedFrom at befores answers afters
 
-  -- one more child was given the order
-  pub one_more_ordered : (befores : List ChildView) (answers : List Obeyed)
-      (between afters : List ChildView) (answer : Obeyed) → OrderedTo befores answers between
-      → ChangedAt (λ before. OrderedIfDue may order before answer) (length answers) between afters → OrderedTo befores (answers ++ answer ∷ []) afters
-  one_more_ordered [] [] [] afters answer so_far changed = absurd changed
-  one_more_ordered [] [] (b ∷ between) afters answer so_far changed = absurd (cc)
-  one_more_ordered (before ∷ befores) [] [] afters answer so_far changed = absurd changed
-  one_more_ordered (before ∷ befores) [] (b ∷ between) [] answer so_far changed = absurd changed
-  one_more_ordered (before ∷ befores) [] (b ∷ between) (after ∷ afters) answer so_far changed =
-      let changed' = subst (λ ls. ChangedAt (λ c. OrderedIfDue may order c answer) zero ls (after ∷ afters)) so_far changed in (changed'.0, changed'.1)
-  one_more_ordered [] (a ∷ answers) between afters answer so_far changed = absurd so_far
-  one_more_ordered (before ∷ befores) (a ∷ answers) [] afters answer so_far changed = absurd changed
-  one_more_ordered (before ∷ befores) (a ∷ answers) (b ∷ between) [] answer so_far changed = absurd changed
-  one_more_ordered (before ∷ befores) (a ∷ answers) (b ∷ between) (after ∷ afters) answer so_far changed =
-      (subst (λ (c : ChildView). OrderedIfDue may order before a c) (sym changed.0) so_far.0, one_more_ordered befores answers between afters answer so_far.1 changed.1)
+  -- from the end on no child was given the order
+  pub none_ordered : (children : List ChildView) → OrderedFrom (length children) children [] children
+  none_ordered [] = tt
+  none_ordered (child ∷ children) = (refl, none_ordered children)
 
-  -- all children were given the order
-  pub all_ordered : (befores : List ChildView) (answers : List Obeyed) (afters : List ChildView)
-      → length befores ≤ length answers
-      → OrderedTo befores answers afters → AllOrdered may order befores answers afters
-  all_ordered [] [] [] few so_far = tt
-  all_ordered [] [] (after ∷ afters) few so_far = absurd (cc)
-  all_ordered [] (answer ∷ answers) afters few so_far = absurd so_far
-  all_ordered (before ∷ befores) [] afters few so_far = absurd (omega arith)
-  all_ordered (before ∷ befores) (answer ∷ answers) [] few so_far = absurd so_far
-  all_ordered (before ∷ befores) (answer ∷ answers) (after ∷ afters) few so_far = (so_far.0, all_ordered befores answers afters (omega arith) so_far.1)
+  -- the child before was given the order
+  pub one_more_ordered : (at : ℕ) (befores : List ChildView) (answers : List Obeyed)
+      (between afters : List ChildView) (answer : Obeyed) → OrderedFrom (suc at) befores answers between
+      → ChangedAt (λ before. OrderedIfDue may order before answer) at between afters → OrderedFrom at befores (answer ∷ answers) afters
+  one_more_ordered at [] answers between afters answer so_far changed = absurd so_far
+  one_more_ordered at (before ∷ befores) answers [] afters answer so_far changed = absurd so_far
+  one_more_ordered zero (before ∷ befores) answers (b ∷ between) [] answer so_far changed = absurd changed
+  one_more_ordered zero (before ∷ befores) answers (b ∷ between) (after ∷ afters) answer so_far changed = (
+    subst (λ (c : ChildView). OrderedIfDue may order c answer after) so_far.0 changed.0,
+    subst (λ (cs : List ChildView). AllOrdered may order befores answers cs) (sym changed.1) so_far.1,
+  )
+  one_more_ordered (suc at) (before ∷ befores) answers (b ∷ between) [] answer so_far changed = absurd changed
+  one_more_ordered (suc at) (before ∷ befores) answers (b ∷ between) (after ∷ afters) answer so_far changed =
+      (changed.0 ∙ so_far.0, one_more_ordered at befores answers between afters answer so_far.1 changed.1)
 
--- the leftmost fault after one more result
-pub leftmost_next : (answers : List Obeyed) (answer : Obeyed)
-    → result_and (leftmost answers) answer ≡ leftmost (answers ++ answer ∷ [])
-leftmost_next [] (Ok done) = refl
-leftmost_next [] (Err fault) = refl
-leftmost_next (Ok done ∷ answers) answer = leftmost_next answers answer
-leftmost_next (Err fault ∷ answers) answer = refl
+-- the leftmost fault after one more result from the left
+pub leftmost_next : (answer : Obeyed) (answers : List Obeyed)
+    → result_and answer (leftmost answers) ≡ leftmost (answer ∷ answers)
+leftmost_next (Ok done) answers = refl
+leftmost_next (Err fault) answers = refl

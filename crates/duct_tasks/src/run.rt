@@ -105,8 +105,8 @@ pub(crate) fn launch_until<E: Drop, H: Hook, S: System<End = E>, C: Clock>(
 ///
 /// Where the clock shows the moment or a later one while the expression has not ended, it is
 /// stopped: each command that is not known to have ended is sent signal 15, and each that is still
-/// not known to have ended when the clock shows this much more is killed, each once and from left
-/// to right. Nothing waits for what was killed: the children are given to the pool, where a sweep
+/// not known to have ended when the clock shows this much more is killed, each once and from right
+/// to left. Nothing waits for what was killed: the children are given to the pool, where a sweep
 /// reaps them. That it was stopped is no error but `Until::Late`, with how it ended and what the
 /// kill returned. A command is sent neither once it is known to have ended; and a command whose
 /// order finds no memory to be noted gets the other one alone, or none. An allocation failure of a

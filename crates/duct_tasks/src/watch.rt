@@ -133,7 +133,7 @@ pub(crate) fn ask<S: System>(running: &mut Running<S>)
     let _ = running.signal(TERMINATE);
 }
 
-/// Kills each command that is not known to have ended, once and from left to right.
+/// Kills each command that is not known to have ended, once and from right to left.
 pub(crate) fn kill<S: System>(running: &mut Running<S>) -> Result<(), Error>
     ensures alike { RunsAlike ⟦<S as Viewed>⟧.views running.old running.new }
     ensures ordered { ChildrenOrdered ⟦<S as Viewed>⟧.views Kill running.old result running.new }

@@ -283,11 +283,12 @@ fn knows_beside_a_kill<R: Wait + Threads + Sync>(
     played(rt, alloc, &mut bench, "a stdout_capture", &play)
 }
 
-/// Whether both calls are polls, or both are orders, and that of the left child comes first.
+/// Whether both calls are polls, that of the left child first, or both are orders, that of the right
+/// child first.
 fn is_step(one: Call, other: Call) -> bool {
     match (one, other) {
         (Call::Poll(left), Call::Poll(right)) => left < right,
-        (Call::Order(left), Call::Order(right)) => left < right,
+        (Call::Order(right), Call::Order(left)) => left < right,
         _ => false,
     }
 }
@@ -304,7 +305,7 @@ fn are_steps(log: &CallLog) -> bool {
         begun = match begun {
             None if matches!(call, Call::Request(_) | Call::PollDrain(_)) => None,
             None => Some(call),
-            Some(left) if is_step(left, call) => None,
+            Some(first) if is_step(first, call) => None,
             Some(_) => return false,
         };
     }

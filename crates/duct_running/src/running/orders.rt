@@ -31,8 +31,9 @@ fn result_of(answer: Result<(), Fault>) -> Result<(), Error>
 }
 
 impl<S: System> Running<S> {
-    /// Kills each command that is not known to have ended, once and from left to right. Where one
-    /// can't be killed, the others still are. It doesn't wait until they have ended.
+    /// Kills each command that is not known to have ended, once and from right to left, so that no
+    /// command finds that its input has ended before its own order. Where one can't be killed, the
+    /// others still are. It doesn't wait until they have ended.
     ///
     /// Fails with `Error::System`, the leftmost fault. Where there is no memory to note the order
     /// for a command, the command is not killed and its fault is `OutOfMemory`.
@@ -88,7 +89,7 @@ impl<S: System> Running<S> {
         give(&mut self.children[at], order)
     }
 
-    // Gives an order to each child that has not ended, from left to right, and returns the first
+    // Gives an order to each child that has not ended, from right to left, and returns the leftmost
     // fault.
     fn order_all(&mut self, order: Order) -> Result<(), Error>
         ensures shape { self.new.shape ≡ self.old.shape }
@@ -98,8 +99,8 @@ impl<S: System> Running<S> {
         ensures error { self.new.error ≡ self.old.error }
     {
         let mut answer = Ok(());
-        for at in 0..self.children.len() {
-            answer = answer.and(self.order(at, order));
+        for at in (0..self.children.len()).rev() {
+            answer = self.order(at, order).and(answer);
         }
         result_of(answer)
     }

@@ -1,11 +1,29 @@
-use Rattle.std.proofs.Common.{◌≤◌, ◌++◌, [], ◌∷◌, ap, sym, ◌∙◌, subst, map, length, length-append, arith}
+use Rattle.std.proofs.Common.{◌≡◌, ◌+◌, ◌-◌, suc, [], ◌∷◌, refl, ap, sym, ◌∙◌, subst, map, length, vec_len, arith}
 use Rattle.std.proofs.lemmas.List.{length-map}
 use Rattle.std.specs.Result.{result_and}
+use Rattle.duct_start.specs.Running.{RunningView}
 use Rattle.duct_running.specs.Ordered.{OrderedIfDue, OrderAnswers}
-use Rattle.duct_running.specs.Polled.{ChangedAt}
 use Rattle.duct_running.proofs.InTurn.{length_kept}
-use Rattle.duct_running.proofs.Orders.{one_more_ordered, all_ordered, leftmost_next}
+use Rattle.duct_running.proofs.Orders.{OrderedFrom, none_ordered, one_more_ordered, leftmost_next}
 use Rattle.duct_running.proofs.running.Running.order_all.Goals as goal
+
+pub loop-at-init : goal.loop-at-init
+loop-at-init g c =
+    let may = g.S.Child.Child.may_obey in
+    let view = g.S.Child.Child.child_view in
+    let children = map view c.args.self.now.children in
+    let stored = c.self.inside.children in
+    let long : length stored.items ≡ vec_len stored = omega (arith, stored.ok.0) in
+    let seen : stored.items ≡ c.args.self.now.children = ap (λ (r : RunningView _ _ _). r.children) c.self.view_is in
+    let all : length children ≡ c.len-at.result = length-map c.args.self.now.children view ∙ sym (ap length seen) ∙ long ∙ sym c.len-at.ensures in
+    record {
+      shape = refl;
+      ordered = ([], refl, subst (λ n. OrderedFrom may c.args.order n children [] children) all (none_ordered may c.args.order children));
+      count = refl;
+      feeds = refl;
+      output = refl;
+      error = refl;
+    }
 
 pub loop-at-preserved : goal.loop-at-preserved
 loop-at-preserved g c =
@@ -13,30 +31,30 @@ loop-at-preserved g c =
     let view = g.S.Child.Child.child_view in
     let i = c.loop-at.invariant in
     let o = i.ordered in
-    let same = length_kept (λ before. OrderedIfDue may c.args.order before c.order.result) c.loop-at.at _ _ c.order.ensures.ordered in
-    let ordered = subst (λ n. ChangedAt (λ before. OrderedIfDue may c.args.order before c.order.result) n (map view c.loop-at.self.children) (map view c.order.new.self.children)) (sym o.1) c.order.ensures.ordered in
+    let at = c.loop-at.at - 1 in
+    let back : c.loop-at.at ≡ suc at = omega arith in
+    let children = map view c.args.self.now.children in
+    let so_far = subst (λ n. OrderedFrom may c.args.order n children o.0 (map view c.loop-at.self.children)) back o.2 in
+    let same = length_kept (λ before. OrderedIfDue may c.args.order before c.order.result) at _ _ c.order.ensures.ordered in
     record {
       shape = c.order.ensures.shape ∙ i.shape;
       ordered = (
-        o.0 ++ c.order.result ∷ [],
-        omega (arith, o.1, length-append o.0 (c.order.result ∷ [])),
-        c.and-answer.ensures ∙ ap (λ a. result_and a c.order.result) o.2 ∙ leftmost_next o.0 c.order.result,
-        one_more_ordered may c.args.order (map view c.args.self.now.children) o.0 (map view c.loop-at.self.children) (map view c.order.new.self.children) c.order.result o.3 ordered,
+        c.order.result ∷ o.0,
+        c.and-answer.ensures ∙ ap (λ a. result_and c.order.result a) o.1 ∙ leftmost_next c.order.result o.0,
+        one_more_ordered may c.args.order at children o.0 (map view c.loop-at.self.children) (map view c.order.new.self.children) c.order.result so_far c.order.ensures.ordered,
       );
       count = sym (length-map c.order.new.self.children view) ∙ same ∙ length-map c.loop-at.self.children view ∙ i.count;
       feeds = c.order.ensures.feeds ∙ i.feeds;
       output = c.order.ensures.output ∙ i.output;
       error = c.order.ensures.error ∙ i.error;
-      kept = i.kept;
     }
 
 pub returns-clause-ordered : goal.returns-clause-ordered
 returns-clause-ordered g c =
     let view = g.S.Child.Child.child_view in
-    let i = c.loop-at.invariant in
-    let o = i.ordered in
-    let all : length (map view c.args.self.now.children) ≤ length o.0 = omega (arith, length-map c.args.self.now.children view, i.kept, o.1, c.loop-at-test.false) in (
+    let o = c.loop-at.invariant.ordered in
+    let start : c.loop-at.at ≡ 0 = omega arith in (
       o.0,
-      all_ordered g.S.Child.Child.may_obey c.args.order (map view c.args.self.now.children) o.0 (map view c.loop-at.self.children) all o.3,
-      subst (λ a. OrderAnswers a c.result_of.result) o.2 c.result_of.ensures,
+      subst (λ n. OrderedFrom g.S.Child.Child.may_obey c.args.order n (map view c.args.self.now.children) o.0 (map view c.loop-at.self.children)) start o.2,
+      subst (λ a. OrderAnswers a c.result_of.result) o.1 c.result_of.ensures,
     )

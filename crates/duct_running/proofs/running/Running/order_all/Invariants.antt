@@ -1,17 +1,16 @@
 use Rattle.std.proofs.Common.{◌≡◌, List, length, map}
 use Rattle.duct_system.specs.Child.{Obeyed}
 use Rattle.duct_running.specs.Ordered.{leftmost}
-use Rattle.duct_running.proofs.Orders.{OrderedTo}
+use Rattle.duct_running.proofs.Orders.{OrderedFrom}
 use Rattle.duct_running.proofs.running.Running.order_all.Given as goal
 
 abbrev pub invariant-loop-at : goal.invariant-loop-at
 invariant-loop-at g l = record {
   shape : l.self.shape ≡ l.initial.self.shape;
-  ordered : (answers : List Obeyed) × (length answers ≡ l.at) × (l.answer ≡ leftmost answers)
-      × OrderedTo g.S.Child.Child.may_obey l.fn.order (map g.S.Child.Child.child_view l.initial.self.children) answers (map g.S.Child.Child.child_view l.self.children);
-  count : length l.self.children ≡ l.at-end;
+  ordered : (answers : List Obeyed) × (l.answer ≡ leftmost answers)
+      × OrderedFrom g.S.Child.Child.may_obey l.fn.order l.at (map g.S.Child.Child.child_view l.initial.self.children) answers (map g.S.Child.Child.child_view l.self.children);
+  count : length l.self.children ≡ length l.initial.self.children;
   feeds : l.self.feeds ≡ l.initial.self.feeds;
   output : l.self.output ≡ l.initial.self.output;
   error : l.self.error ≡ l.initial.self.error;
-  kept : length l.initial.self.children ≡ l.at-end;
 }
