@@ -44,14 +44,18 @@ pub mod unix {
     pub use duct_handle::unix::HandleExt;
 }
 
-// What a worker does, and workers on threads of their own.
-pub use duct_base::shared::Shared;
-pub use duct_base::spawn::{spawn_drain, spawn_feed};
-pub use duct_base::transfer::{drain, feed};
-pub use duct_base::worker::Worker;
+/// What a worker does, and workers on threads of their own.
+pub mod worker {
+    pub use duct_base::shared::Shared;
+    pub use duct_base::spawn::{spawn_drain, spawn_feed};
+    pub use duct_base::transfer::{drain, feed};
+    pub use duct_base::worker::Worker;
+}
 
-// How an expression ended, by what its commands and workers reported.
-pub use duct_base::status::{Core, Drains, Event, Reply, Shape, Word};
+/// How an expression ended, by what its commands and workers reported.
+pub mod status {
+    pub use duct_base::status::{Core, Drains, Event, Reply, Shape, Word};
+}
 
 /// A command: `cmd!(in alloc; program, arg, ..)` is `cmd(alloc, program, &[arg, ..])`. A trailing
 /// comma is allowed.
