@@ -16,7 +16,8 @@ use Rattle.duct_system.specs.declared.system.Side.{Side}
 use Rattle.duct_system.specs.declared.system.Side.TheVariants as sides
 use Rattle.duct_system.specs.declared.system.Stdio.{Stdio}
 use Rattle.duct_system.specs.declared.system.Stdio.TheVariants.{Inherit, Null, End}
-use Rattle.duct_replay.specs.Lines.{AreBytes, Ended, IsSmall, IsWritable, ItemView, Noted, Read, answer_data, bytes_data, entry_data, folder_data, item_data, kind_name, list_data, number_answer_data, number_data, port_data, ports_data, request_data, result_data, side_name, status_data, stream_data, variable_data, variables_data, ◌>>=◌, all_meant, answer_meant, byte_meant, bytes_meant, ending_meant, ends_answer, ends_meant, fault_meant, feed_meant, first_meant, folder_meant, integer_meant, item_meant, item_named, kind_named, list_meant, named_meant, number_answer, number_meant, only_meant, output_meant, pair_meant, port_meant, ports_meant, returned_as, side_named, spawn_meant, spec_meant, status_named, stream_meant, streams_meant, text_answer, text_meant, unit_answer, unit_meant, value_meant, variable_meant, variables_answer, variables_meant, words_meant}
+use Rattle.duct_system.specs.Kinds.{kind_name}
+use Rattle.duct_replay.specs.Lines.{AreBytes, Ended, IsSmall, IsWritable, ItemView, Noted, Read, answer_data, bytes_data, entry_data, folder_data, item_data, list_data, number_answer_data, number_data, port_data, ports_data, request_data, result_data, side_name, status_data, stream_data, variable_data, variables_data, ◌>>=◌, all_meant, answer_meant, byte_meant, bytes_meant, each_of, ending_meant, ends_answer, ends_meant, fault_meant, feed_meant, first_meant, integer_meant, item_meant, item_named, kind_named, list_meant, named_meant, number_answer, number_meant, only_meant, output_meant, pair_meant, port_meant, returned_as, side_named, spawn_meant, spec_meant, status_named, stream_meant, text_answer, text_meant, text_or_null, three_meant, unit_answer, unit_meant, variable_meant, variables_answer, variables_meant, words_meant}
 use Rattle.duct_replay.specs.declared.error.Refusal.{Refusal}
 use Rattle.duct_replay.specs.declared.write.Variables.TheVariants.{Shown}
 use Rattle.duct_replay.proofs.Lists.{list_of_items}
@@ -51,7 +52,7 @@ words_back words =
     ∙ all_back text_meant string text_back words
 
 variable_back : (pair : List ℕ × List ℕ) → variable_meant (variable_data Shown pair) ≡ Ok pair
-unfolding variable_meant list_meant pair_meant text_meant value_meant variable_data
+unfolding variable_meant list_meant pair_meant text_meant text_or_null variable_data
 variable_back pair = refl
 
 variables_back : (vars : Vars) → variables_meant (variables_data Shown vars) ≡ Ok vars
@@ -81,8 +82,8 @@ bytes_back bytes are = either (is_utf8 bytes)
 
 -- ---- parts of a spec
 
-folder_back : (folder : Option (List ℕ)) → folder_meant (folder_data folder) ≡ Ok folder
-unfolding folder_meant
+folder_back : (folder : Option (List ℕ)) → text_or_null (folder_data folder) ≡ Ok folder
+unfolding text_or_null
 folder_back (Some folder) = refl
 folder_back None = refl
 
@@ -94,8 +95,9 @@ port_back ports.Given = refl
 port_back (ports.Place place) = refl
 
 ports_back : (spec : SpecView)
-    → ports_meant (ports_data spec) ≡ Ok (spec.input, spec.output, spec.error)
-unfolding ports_meant list_meant
+    → (three_meant (ports_data spec) >>= each_of port_meant)
+    ≡ Ok (spec.input, spec.output, spec.error)
+unfolding three_meant list_meant
 ports_back spec = rw (port_back spec.input, port_back spec.output, port_back spec.error)
 
 stream_back : (stream : Stdio ℕ) → stream_meant (stream_data stream) ≡ Ok stream
@@ -105,9 +107,9 @@ stream_back Null = refl
 stream_back (End end) = refl
 
 streams_back : (input output error : Stdio ℕ)
-    → streams_meant (list_data (map stream_data (input ∷ output ∷ error ∷ [])))
+    → (three_meant (list_data (map stream_data (input ∷ output ∷ error ∷ []))) >>= each_of stream_meant)
     ≡ Ok (input, output, error)
-unfolding streams_meant list_meant
+unfolding three_meant list_meant
 streams_back input output error = rw (stream_back input, stream_back output, stream_back error)
 
 spec_back : (spec : SpecView) → AreOrdered spec.vars

@@ -6,6 +6,7 @@
 use Rattle.std.specs.Prelude.{◌≡◌, ◌<◌, ℕ, ℤ, pos, negsuc, int_lt, false, List, [], ◌∷◌, ◌++◌, map, length, slice_index, codes, Some, None, Ok, Err, if◌then◌else◌, ⊤, Option, Result, nat_lt, option_map, option_and_then, ok_or, bytes_eq, ◌≢◌, ◌+◌, flat_map}
 use Rattle.std.specs.Str.{is_utf8}
 use Rattle.duct_system.specs.EntryView.{EntryView, Environment, Pipe, OpenRead, Create, Duplicate, Parent, Canonicalize, Spawn, Feed, Drain, Reader, Close, entry_view}
+use Rattle.duct_system.specs.Kinds.{kind_name}
 use Rattle.duct_system.specs.SpecView.{SpecView, Vars, AreOrdered, with_var}
 use Rattle.duct_system.specs.declared.spec.Port.{Port}
 use Rattle.duct_system.specs.declared.spec.Port.TheVariants as ports
@@ -41,17 +42,6 @@ number_data n = number (unsigned n)
 -- an array of these
 abbrev pub list_data : List Data → Data
 list_data items = array (items_of items)
-
--- the name of a kind of fault
-abbrev pub kind_name : Kind → List ℕ
-kind_name NotFound = codes "NotFound"
-kind_name PermissionDenied = codes "PermissionDenied"
-kind_name BrokenPipe = codes "BrokenPipe"
-kind_name WriteZero = codes "WriteZero"
-kind_name InvalidInput = codes "InvalidInput"
-kind_name Unsupported = codes "Unsupported"
-kind_name OutOfMemory = codes "OutOfMemory"
-kind_name Other = codes "Other"
 
 -- the name of an output stream of the parent
 abbrev pub side_name : Side → List ℕ
@@ -306,16 +296,17 @@ text_answer items = answer_meant items >>= returned_as (λ values. only_meant va
 
 -- ---- variables, bytes, streams
 
--- the value of a variable; null stands for one that was hidden
-unfoldable pub value_meant : Data → Result (List ℕ) Refusal
-value_meant null = Err Hidden
-value_meant (string text) = Ok text
-value_meant _ = Err NotEntry
+-- null stands for no text
+unfoldable pub text_or_null : Data → Result (Option (List ℕ)) Refusal
+text_or_null null = Ok None
+text_or_null (string text) = Ok (Some text)
+text_or_null _ = Err NotEntry
 
--- a name and its value
+-- a name and its value; null stands for a value that was hidden
 unfoldable pub pair_meant : List Data → Result (List ℕ × List ℕ) Refusal
 pair_meant (name ∷ value ∷ []) =
-    text_meant name >>= λ name. value_meant value >>= λ value. Ok (name, value)
+    text_meant name >>= λ name. text_or_null value >>= λ value. ok_or value Hidden
+    >>= λ value. Ok (name, value)
 pair_meant _ = Err NotEntry
 
 unfoldable pub variable_meant : Data → Result (List ℕ × List ℕ) Refusal
@@ -344,12 +335,6 @@ bytes_meant json =
       | None ↦ list_meant json >>= all_meant byte_meant
     ]
 
--- null stands for no folder
-unfoldable pub folder_meant : Data → Result (Option (List ℕ)) Refusal
-folder_meant null = Ok None
-folder_meant (string text) = Ok (Some text)
-folder_meant _ = Err NotEntry
-
 unfoldable pub words_meant : Data → Result (List (List ℕ)) Refusal
 words_meant json = list_meant json >>= all_meant text_meant
 
@@ -372,19 +357,20 @@ stream_meant (string name) =
     else Err NotEntry
 stream_meant _ = Err NotEntry
 
--- exactly three of these
-abbrev pub three_meant : {A : Type 0} → (Data → Result A Refusal) → List Data
+-- exactly three items
+abbrev pub three_of : List Data → Result (Data × Data × Data) Refusal
+three_of (input ∷ output ∷ error ∷ []) = Ok (input, output, error)
+three_of _ = Err NotEntry
+
+unfoldable pub three_meant : Data → Result (Data × Data × Data) Refusal
+three_meant json = list_meant json >>= three_of
+
+-- each of three
+abbrev pub each_of : {A : Type 0} → (Data → Result A Refusal) → Data × Data × Data
     → Result (A × A × A) Refusal
-three_meant one (input ∷ output ∷ error ∷ []) =
-    one input >>= λ input. one output >>= λ output. one error >>= λ error.
+each_of one parts =
+    one parts.0 >>= λ input. one parts.1 >>= λ output. one parts.2 >>= λ error.
     Ok (input, output, error)
-three_meant one _ = Err NotEntry
-
-unfoldable pub ports_meant : Data → Result (Port × Port × Port) Refusal
-ports_meant json = list_meant json >>= three_meant port_meant
-
-unfoldable pub streams_meant : Data → Result (Stdio ℕ × Stdio ℕ × Stdio ℕ) Refusal
-streams_meant json = list_meant json >>= three_meant stream_meant
 
 unfoldable pub side_named : List ℕ → Result Side Refusal
 side_named = named side_name (sides.Out ∷ sides.Err ∷ [])
@@ -393,9 +379,9 @@ side_named = named side_name (sides.Out ∷ sides.Err ∷ [])
 unfoldable pub spec_meant : Data → Data → Data → Data → Result SpecView Refusal
 spec_meant words folder vars ports =
     words_meant words >>= λ words.
-    folder_meant folder >>= λ folder.
+    text_or_null folder >>= λ folder.
     variables_meant vars >>= λ vars.
-    ports_meant ports >>= λ ports. Ok (record {
+    three_meant ports >>= each_of port_meant >>= λ ports. Ok (record {
       words = words;
       folder = folder;
       vars = set_in_turn [] vars;
@@ -421,7 +407,7 @@ spawn_meant items =
     first_meant vars.1 >>= λ ports.
     first_meant ports.1 >>= λ streams.
     spec_meant words.0 folder.0 vars.0 ports.0 >>= λ spec.
-    streams_meant streams.0 >>= λ io.
+    three_meant streams.0 >>= each_of stream_meant >>= λ io.
     number_answer streams.1 >>= λ answer.
     Ok (Spawn spec (io.0 ∷ io.1 ∷ io.2 ∷ []) answer)
 
@@ -475,24 +461,24 @@ status_named name n =
     else Err NotEntry
 
 -- the number of a child and how it ended
-unfoldable pub ending_meant : List Data → Result (ℕ × ExitStatus) Refusal
+unfoldable pub ending_meant : List Data → Result ItemView Refusal
 ending_meant items =
     first_meant items >>= λ child. first_meant child.1 >>= λ name.
     number_meant child.0 >>= λ number. text_meant name.0 >>= λ word.
     only_meant name.1 >>= λ json. integer_meant json >>= λ n.
-    status_named word n >>= λ status. Ok (number, status)
+    status_named word n >>= λ status. Ok (Ended (number, status))
 
 -- the number of an end and what was read of it
-unfoldable pub output_meant : List Data → Result (ℕ × List ℕ) Refusal
+unfoldable pub output_meant : List Data → Result ItemView Refusal
 output_meant items =
     first_meant items >>= λ end. number_meant end.0 >>= λ number.
-    only_meant end.1 >>= λ json. bytes_meant json >>= λ bytes. Ok (number, bytes)
+    only_meant end.1 >>= λ json. bytes_meant json >>= λ bytes. Ok (Read (number, bytes))
 
 -- what stands behind this name
 unfoldable pub item_named : List ℕ → List Data → Result ItemView Refusal
 item_named name items =
-    if bytes_eq name (codes "ended") then (ending_meant items >>= λ ending. Ok (Ended ending))
-    else if bytes_eq name (codes "read") then (output_meant items >>= λ output. Ok (Read output))
+    if bytes_eq name (codes "ended") then ending_meant items
+    else if bytes_eq name (codes "read") then output_meant items
     else (named_meant name items >>= λ entry. Ok (Noted entry))
 
 -- what a line means

@@ -48,10 +48,8 @@ pub fn judge<H: Hook>(
     ensures { IfOk result (λ judged. Judges H.allows H.refuses ⟦<ReplayEnd as Numbered>⟧.number_of
         (tree_view expression.now) (map entry_view entries.now) judged.0 judged.1.journal) }
 {
-    let mut replay = Replay::new(
-        alloc,
-        Recording::new(alloc, copies_of_entries(alloc, entries)?),
-    );
+    let recording = Recording::new(alloc, copies_of_entries(alloc, entries)?);
+    let mut replay = Replay::new(alloc, recording);
     let error = start(alloc, expression, &mut replay);
     let verdict = verdict_on(alloc, entries, replay.journal(), &error)?;
     Ok((verdict, replay))
@@ -171,19 +169,7 @@ fn any_lacks_memory(entries: &[Entry]) -> bool
 fn lacks_memory(entry: &Entry) -> bool
     ensures { result ≡ lacks_memory (entry_view entry.now) }
 {
-    match entry {
-        Entry::Environment(Err(fault))
-        | Entry::Pipe(Err(fault))
-        | Entry::OpenRead(_, Err(fault))
-        | Entry::Create(_, Err(fault))
-        | Entry::Duplicate(_, Err(fault))
-        | Entry::Parent(_, Err(fault))
-        | Entry::Canonicalize(_, Err(fault))
-        | Entry::Spawn(_, _, Err(fault))
-        | Entry::Feed(_, _, Err(fault))
-        | Entry::Drain(_, Err(fault)) => is_memory(fault.kind),
-        _ => false,
-    }
+    matches!(entry.fault(), Some(fault) if is_memory(fault.kind))
 }
 
 // Returns whether a spawn that is recorded with a lack of memory was made with another result,

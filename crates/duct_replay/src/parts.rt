@@ -2,7 +2,7 @@
 ghost use Rattle.std.specs.Prelude.{[], map, string_bytes, option_map};
 ghost use Rattle.duct_system.specs.EntryView.{answer_of};
 ghost use Rattle.duct_system.specs.SpecView.{pair_text};
-ghost use Rattle.duct_replay.specs.Lines.{text_meant, number_meant, list_meant, first_meant, only_meant, kind_named, fault_meant, answer_meant, unit_meant, ends_meant, unit_answer, number_answer, ends_answer, text_answer, value_meant, pair_meant, variable_meant, variables_meant, variables_answer, byte_meant, bytes_meant, folder_meant, port_meant, stream_meant, ports_meant, streams_meant, side_named, all_meant, words_meant, ParsesAs};
+ghost use Rattle.duct_replay.specs.Lines.{text_meant, number_meant, list_meant, first_meant, only_meant, kind_named, answer_meant, unit_meant, ends_meant, unit_answer, number_answer, ends_answer, text_answer, pair_meant, variable_meant, variables_meant, variables_answer, byte_meant, bytes_meant, text_or_null, port_meant, stream_meant, three_meant, side_named, all_meant, words_meant, ParsesAs};
 ghost use Rattle.serde_json.specs.View.{view};
 
 use crate::error::Refusal;
@@ -37,10 +37,7 @@ pub(crate) fn number(value: &Value) -> Result<u64, Refusal>
 pub(crate) fn list(value: &Value) -> Result<&[Value], Refusal>
     ensures { ParsesAs (λ items. map view items.now) result (list_meant (view value.now)) }
 {
-    match value.as_array() {
-        Some(items) => Ok(items.as_slice()),
-        None => Err(Refusal::NotEntry),
-    }
+    Ok(value.as_array().ok_or(Refusal::NotEntry)?.as_slice())
 }
 
 /// The first of these, and those behind it.
@@ -82,17 +79,8 @@ fn kind_named(name: &str) -> Result<Kind, Refusal>
     }
 }
 
-// The fault whose kind stands alone here.
-#[tactic(auto, unfolding(crate::specs::Lines::fault_meant))]
-fn fault(values: &[Value]) -> Result<Fault, Refusal>
-    ensures { ParsesAs (λ fault. fault) result (fault_meant (map view values.now)) }
-{
-    let kind = kind_named(text(only(values)?)?)?;
-    Ok(Fault::new(kind))
-}
-
 // An answer: what was returned, or a fault.
-#[tactic(auto, unfolding(crate::specs::Lines::answer_meant))]
+#[tactic(auto, unfolding(crate::specs::Lines::answer_meant, crate::specs::Lines::fault_meant))]
 fn answer(items: &[Value]) -> Result<Result<&[Value], Fault>, Refusal>
     ensures { ParsesAs (answer_of (λ values. map view values.now)) result
         (answer_meant (map view items.now)) }
@@ -100,7 +88,7 @@ fn answer(items: &[Value]) -> Result<Result<&[Value], Fault>, Refusal>
     let (word, values) = first(items)?;
     match text(word)? {
         "ok" => Ok(Ok(values)),
-        "fault" => Ok(Err(fault(values)?)),
+        "fault" => Ok(Err(Fault::new(kind_named(text(only(values)?)?)?))),
         _ => Err(Refusal::NotEntry),
     }
 }
@@ -183,18 +171,10 @@ fn variable(alloc: Global, value: &Value) -> Result<(String, String), Refusal>
     ensures { ParsesAs pair_text result (variable_meant (view value.now)) }
 {
     match list(value)? {
-        [name, value] => Ok((text_copy(alloc, name)?, variable_value(alloc, value)?)),
-        _ => Err(Refusal::NotEntry),
-    }
-}
-
-#[tactic(auto, unfolding(crate::specs::Lines::value_meant))]
-fn variable_value(alloc: Global, value: &Value) -> Result<String, Refusal>
-    ensures { ParsesAs string_bytes result (value_meant (view value.now)) }
-{
-    match value {
-        Value::Null => Err(Refusal::Hidden),
-        Value::String(text) => Ok(String::from_str(alloc, text.as_str())?),
+        [name, value] => {
+            let name = text_copy(alloc, name)?;
+            Ok((name, text_or_null(alloc, value)?.ok_or(Refusal::Hidden)?))
+        }
         _ => Err(Refusal::NotEntry),
     }
 }
@@ -240,20 +220,18 @@ fn numbered_bytes(alloc: Global, values: &[Value]) -> Result<Vec<u8>, Refusal>
 fn byte(value: &Value) -> Result<u8, Refusal>
     ensures { ParsesAs (λ byte. byte) result (byte_meant (view value.now)) }
 {
-    let number = number(value)?;
-    if number < 256 {
-        Ok(number as u8)
-    } else {
-        Err(Refusal::NotEntry)
+    match number(value)? {
+        number if number < 256 => Ok(number as u8),
+        _ => Err(Refusal::NotEntry),
     }
 }
 
 // ---- folders, ports, streams
 
-/// A folder, or none where it is null.
-#[tactic(auto, unfolding(crate::specs::Lines::folder_meant))]
-pub(crate) fn folder(alloc: Global, value: &Value) -> Result<Option<String>, Refusal>
-    ensures { ParsesAs (option_map string_bytes) result (folder_meant (view value.now)) }
+/// A text, or none where it is null.
+#[tactic(auto, unfolding(crate::specs::Lines::text_or_null))]
+pub(crate) fn text_or_null(alloc: Global, value: &Value) -> Result<Option<String>, Refusal>
+    ensures { ParsesAs (option_map string_bytes) result (text_or_null (view value.now)) }
 {
     match value {
         Value::Null => Ok(None),
@@ -262,19 +240,21 @@ pub(crate) fn folder(alloc: Global, value: &Value) -> Result<Option<String>, Ref
     }
 }
 
-#[tactic(auto, unfolding(crate::specs::Lines::ports_meant))]
-pub(crate) fn ports(value: &Value) -> Result<(Port, Port, Port), Refusal>
-    ensures { ParsesAs (λ ports. ports) result (ports_meant (view value.now)) }
+/// The items of an array of three.
+#[tactic(auto, unfolding(crate::specs::Lines::three_meant))]
+pub(crate) fn three(value: &Value) -> Result<(&Value, &Value, &Value), Refusal>
+    ensures { ParsesAs (λ parts. (view parts.0.now, view parts.1.now, view parts.2.now)) result
+        (three_meant (view value.now)) }
 {
     match list(value)? {
-        [input, output, error] => Ok((port(input)?, port(output)?, port(error)?)),
+        [input, output, error] => Ok((input, output, error)),
         _ => Err(Refusal::NotEntry),
     }
 }
 
-// A port: its name, or the place of an end.
+/// A port: its name, or the place of an end.
 #[tactic(auto, unfolding(crate::specs::Lines::port_meant, crate::specs::Lines::number_meant))]
-fn port(value: &Value) -> Result<Port, Refusal>
+pub(crate) fn port(value: &Value) -> Result<Port, Refusal>
     ensures { ParsesAs (λ port. port) result (port_meant (view value.now)) }
 {
     match value {
@@ -289,19 +269,9 @@ fn port(value: &Value) -> Result<Port, Refusal>
     }
 }
 
-#[tactic(auto, unfolding(crate::specs::Lines::streams_meant))]
-pub(crate) fn streams(value: &Value) -> Result<(Stdio<u64>, Stdio<u64>, Stdio<u64>), Refusal>
-    ensures { ParsesAs (λ streams. streams) result (streams_meant (view value.now)) }
-{
-    match list(value)? {
-        [input, output, error] => Ok((stream(input)?, stream(output)?, stream(error)?)),
-        _ => Err(Refusal::NotEntry),
-    }
-}
-
-// A stream: its name, or the number of its end.
+/// A stream: its name, or the number of its end.
 #[tactic(auto, unfolding(crate::specs::Lines::stream_meant, crate::specs::Lines::number_meant))]
-fn stream(value: &Value) -> Result<Stdio<u64>, Refusal>
+pub(crate) fn stream(value: &Value) -> Result<Stdio<u64>, Refusal>
     ensures { ParsesAs (λ stream. stream) result (stream_meant (view value.now)) }
 {
     match value {

@@ -7,8 +7,8 @@ ghost use Rattle.serde_json.specs.View.{view};
 
 use crate::error::Refusal;
 use crate::parts::{
-    bytes, ends_answer, first, folder, list, number, number_answer, only, ports, side_named,
-    streams, text, text_answer, text_copy, unit_answer, variables, variables_answer, words,
+    bytes, ends_answer, first, list, number, number_answer, only, port, side_named, stream, text,
+    text_answer, text_copy, text_or_null, three, unit_answer, variables, variables_answer, words,
 };
 use duct_system::spec::{CommandSpec, spec_of};
 use duct_system::system::{Entry, ExitStatus};
@@ -70,21 +70,15 @@ fn item_named(alloc: Global, name: &str, items: &[Value]) -> Result<Item, Refusa
     ensures { ParsesAs item_view result (item_named name.now (map view items.now)) }
 {
     match name {
-        "ended" => {
-            let (child, status) = ending(items)?;
-            Ok(Item::Ended(child, status))
-        }
-        "read" => {
-            let (end, bytes) = output(alloc, items)?;
-            Ok(Item::Read(end, Arc::new(alloc, bytes)?))
-        }
+        "ended" => ending(items),
+        "read" => output(alloc, items),
         _ => Ok(Item::Entry(named(alloc, name, items)?)),
     }
 }
 
 #[tactic(auto, unfolding(crate::specs::Lines::ending_meant, crate::specs::Lines::status_named))]
-fn ending(items: &[Value]) -> Result<(u64, ExitStatus), Refusal>
-    ensures { ParsesAs (λ ending. ending) result (ending_meant (map view items.now)) }
+fn ending(items: &[Value]) -> Result<Item, Refusal>
+    ensures { ParsesAs item_view result (ending_meant (map view items.now)) }
 {
     let (child, items) = first(items)?;
     let (name, items) = first(items)?;
@@ -92,20 +86,20 @@ fn ending(items: &[Value]) -> Result<(u64, ExitStatus), Refusal>
     let name = text(name)?;
     let code = integer(only(items)?)?;
     match name {
-        "code" => Ok((child, ExitStatus::Code(code))),
-        "signal" => Ok((child, ExitStatus::Signal(code))),
+        "code" => Ok(Item::Ended(child, ExitStatus::Code(code))),
+        "signal" => Ok(Item::Ended(child, ExitStatus::Signal(code))),
         _ => Err(Refusal::NotEntry),
     }
 }
 
 #[tactic(auto, unfolding(crate::specs::Lines::output_meant))]
-fn output(alloc: Global, items: &[Value]) -> Result<(u64, Vec<u8>), Refusal>
-    ensures { ParsesAs (λ output. (output.0, output.1.items)) result
-        (output_meant (map view items.now)) }
+fn output(alloc: Global, items: &[Value]) -> Result<Item, Refusal>
+    ensures { ParsesAs item_view result (output_meant (map view items.now)) }
 {
     let (end, items) = first(items)?;
     let end = number(end)?;
-    Ok((end, bytes(alloc, only(items)?)?))
+    let bytes = bytes(alloc, only(items)?)?;
+    Ok(Item::Read(end, Arc::new(alloc, bytes)?))
 }
 
 // The integer of 32 bits that a value is.
@@ -183,8 +177,9 @@ fn spawn(alloc: Global, items: &[Value]) -> Result<Entry, Refusal>
     let (ports, items) = first(items)?;
     let (io, answer) = first(items)?;
     let spec = spec(alloc, words, folder, vars, ports)?;
-    let (input, output, error) = streams(io)?;
-    Ok(Entry::Spawn(spec, [input, output, error], number_answer(answer)?))
+    let (input, output, error) = three(io)?;
+    let io = [stream(input)?, stream(output)?, stream(error)?];
+    Ok(Entry::Spawn(spec, io, number_answer(answer)?))
 }
 
 #[tactic(auto, unfolding(crate::specs::Lines::spec_meant))]
@@ -199,9 +194,10 @@ fn spec(
         (spec_meant (view said.now) (view place.now) (view vars.now) (view connected.now)) }
 {
     let words = Arc::new(alloc, words(alloc, said)?)?;
-    let folder = folder(alloc, place)?;
+    let folder = text_or_null(alloc, place)?;
     let vars = variables(alloc, vars)?;
-    let (input, output, error) = ports(connected)?;
+    let (input, output, error) = three(connected)?;
+    let (input, output, error) = (port(input)?, port(output)?, port(error)?);
     let mut spec = spec_of(words, folder, BTreeMap::new(alloc), input, output, error);
     set_variables(&mut spec, vars.as_slice())?;
     Ok(spec)

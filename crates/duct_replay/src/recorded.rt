@@ -6,6 +6,7 @@ ghost use Rattle.std.specs.Io.{ReadsAtMost};
 ghost use Rattle.std.specs.Io.KnownBytes.{ReadConsumes};
 ghost use Rattle.std.specs.Option.{ForSome};
 
+use crate::recording::listed;
 use duct_system::system::{Child, ExitStatus, Fault, Job, Numbered, Said, System};
 use std::alloc::{AllocError, Global};
 use std::io;
@@ -61,12 +62,7 @@ pub(crate) fn add_note<T: Drop>(
 
 /// Returns one more owner of the note with this number, if there is one.
 pub(crate) fn note_of<T: Drop>(notes: &Notes<T>, number: u64) -> Option<Note<T>> {
-    for (other, note) in notes {
-        if *other == number {
-            return Arc::try_clone(note).ok();
-        }
-    }
-    None
+    Arc::try_clone(listed(notes.as_slice(), number)?).ok()
 }
 
 // Notes what was read of an end.

@@ -50,8 +50,7 @@ impl Recording {
         }) }
         ensures err { OnErr result (self.new ≡ self.old) }
     {
-        self.entries.push(entry)?;
-        Ok(())
+        Ok(self.entries.push(entry)?)
     }
 
     /// Sets how the child with this number ended. Only the first call for a number counts. Fails at
@@ -62,8 +61,7 @@ impl Recording {
         }) }
         ensures err { OnErr result (self.new ≡ self.old) }
     {
-        self.endings.push((number, status))?;
-        Ok(())
+        Ok(self.endings.push((number, status))?)
     }
 
     /// Sets what a reader or a worker reads of the end with this number. Only the first call for a
@@ -74,8 +72,7 @@ impl Recording {
         }) }
         ensures err { OnErr result (self.new ≡ self.old) }
     {
-        self.outputs.push((number, bytes))?;
-        Ok(())
+        Ok(self.outputs.push((number, bytes))?)
     }
 
     /// Returns the entries, oldest first.
@@ -127,18 +124,14 @@ impl Recording {
     }
 }
 
-// Returns what stands first for a number, if something does.
-fn listed<T>(pairs: &[(u64, T)], number: u64) -> Option<&T>
+/// Returns what stands first for a number, if something does.
+pub(crate) fn listed<T>(pairs: &[(u64, T)], number: u64) -> Option<&T>
     ensures { option_copied result ≡ listed number pairs.now }
 {
-    match pairs.split_first() {
-        None => None,
-        Some((pair, rest)) => {
-            if pair.0 == number {
-                Some(&pair.1)
-            } else {
-                listed(rest, number)
-            }
-        }
+    let (pair, rest) = pairs.split_first()?;
+    if pair.0 == number {
+        Some(&pair.1)
+    } else {
+        listed(rest, number)
     }
 }

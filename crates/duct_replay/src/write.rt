@@ -2,7 +2,7 @@
 ghost use Rattle.std.specs.Prelude.{◌≡◌, ◌++◌, ◌∷◌, [], Some, Ok, flat_map, length, map, string_bytes, IfOk, OnOk, option_copied};
 ghost use Rattle.duct_system.specs.EntryView.{entry_view};
 ghost use Rattle.duct_system.specs.SpecView.{AreOrdered, pair_text};
-ghost use Rattle.duct_replay.specs.Lines.{AreBytes, Ended, IsWritable, ItemView, Noted, Read, answer_data, bytes_data, entry_data, folder_data, item_data, item_text, kind_name, list_data, number_data, port_data, ports_data, refused_data, request_data, side_name, spawn_data, stream_data, variable_data, variables_data, AllRead, ReadsFirst, output_view, line_meant};
+ghost use Rattle.duct_replay.specs.Lines.{AreBytes, Ended, IsWritable, ItemView, Noted, Read, answer_data, bytes_data, entry_data, folder_data, item_data, item_text, list_data, number_data, port_data, ports_data, request_data, side_name, spawn_data, stream_data, variable_data, variables_data, AllRead, ReadsFirst, output_view, line_meant};
 ghost use Rattle.duct_replay.specs.declared.write.Variables.{Variables};
 ghost use Rattle.serde_json.specs.Data.{string};
 ghost use Rattle.serde_json.specs.Read.{read};
@@ -10,7 +10,7 @@ ghost use Rattle.serde_json.specs.View.{view};
 ghost use Rattle.serde_json.specs.Written.{compact_text};
 
 use duct_system::spec::{CommandSpec, Port, Stream};
-use duct_system::system::{Entry, ExitStatus, Fault, Kind, Side, Stdio};
+use duct_system::system::{Entry, ExitStatus, Side, Stdio};
 use serde_json::Value;
 use std::alloc::{AllocError, Global};
 use std::sync::Arc;
@@ -326,11 +326,8 @@ fn answer(alloc: Global, entry: &Entry, variables: Variables) -> Result<Vec<Valu
 {
     match entry {
         Entry::Environment(Ok(pairs)) => {
-            two(
-                alloc,
-                "ok",
-                environment(alloc, pairs.as_slice(), variables)?,
-            )
+            let pairs = environment(alloc, pairs.as_slice(), variables)?;
+            two(alloc, "ok", pairs)
         }
         Entry::Pipe(Ok((reader, writer))) => {
             let word = text(alloc, "ok")?;
@@ -353,29 +350,7 @@ fn answer(alloc: Global, entry: &Entry, variables: Variables) -> Result<Vec<Valu
         | Entry::Canonicalize(_, Err(fault))
         | Entry::Spawn(_, _, Err(fault))
         | Entry::Feed(_, _, Err(fault))
-        | Entry::Drain(_, Err(fault)) => refused(alloc, *fault),
-    }
-}
-
-// The answer of a request that was refused.
-fn refused(alloc: Global, fault: Fault) -> Result<Vec<Value>, AllocError>
-    ensures { IfOk result (λ items. map view items.items ≡ refused_data fault) }
-{
-    two(alloc, "fault", text(alloc, kind_name(fault.kind))?)
-}
-
-fn kind_name(kind: Kind) -> &'static str
-    ensures { result.now ≡ kind_name kind }
-{
-    match kind {
-        Kind::NotFound => "NotFound",
-        Kind::PermissionDenied => "PermissionDenied",
-        Kind::BrokenPipe => "BrokenPipe",
-        Kind::WriteZero => "WriteZero",
-        Kind::InvalidInput => "InvalidInput",
-        Kind::Unsupported => "Unsupported",
-        Kind::OutOfMemory => "OutOfMemory",
-        Kind::Other => "Other",
+        | Entry::Drain(_, Err(fault)) => two(alloc, "fault", text(alloc, fault.kind.name())?),
     }
 }
 
