@@ -13,15 +13,12 @@ const PROGRAM: Program = Program {
 };
 
 fn main(rt: HostRuntime) -> ExitCode {
-    let mut out = io::writer(&rt);
-    let mut err = rt.stderr();
-    let status = match arguments(&rt) {
+    let (alloc, mut out, mut err) = (rt.alloc(), io::writer(&rt), rt.stderr());
+    ExitCode::from(match arguments(&rt) {
         Ok(words) => {
-            let (alloc, words) = (rt.alloc(), words.as_slice());
             let mut host = Host::new(&rt, alloc);
-            perform(&rt, alloc, &mut host, words, &mut out, &mut err)
+            perform(&rt, alloc, &mut host, words.as_slice(), &mut out, &mut err)
         }
         Err(error) => PROGRAM.tell_error(&mut err, &error, 2, "host: argument is not UTF-8\n"),
-    };
-    ExitCode::from(status)
+    })
 }

@@ -1,1 +1,1 @@
-pub mod JudgedLine
+pub mod Commands

@@ -3,11 +3,9 @@
 //! whether such a file is that of these words, and `trace replay` does the same again from the file.
 #![tactic(auto)]
 
-mod recorded;
-mod rerun;
+mod commands;
 
-use crate::recorded::recorded;
-use crate::rerun::{JUDGE, REPLAY, judge_line, recording_of, replay};
+use crate::commands::{JUDGE, REPLAY, judge_line, recorded, recording_of, replay};
 use duct_host::Host;
 use duct_plan::perform;
 use duct_program::{Program, arguments};

@@ -1,28 +1,113 @@
-//! The commands that run the start of the words again, over what `trace record` wrote: with no
-//! process and no file.
-ghost use Rattle.std.specs.Prelude.{◌≡◌, ◌≢◌, ◌≤◌, [], map, string_bytes, codes, None};
+//! The commands over the recording of a start: the journal, how children ended, and what was read.
+//! `trace record` makes its file before anything starts, and writes it when everything has ended;
+//! the others run the start of the words again from it, with no process and no file.
+ghost use Rattle.std.specs.Prelude.{◌≡◌, ◌≢◌, ◌⊎◌, ◌≤◌, map, string_bytes, codes};
 ghost use Rattle.std.specs.Io.KnownBytes.{Appends};
 ghost use Rattle.duct_system.specs.EntryView.{entry_view};
 ghost use Rattle.duct_program.specs.Answered.{WritesText, WritesUsage, line_of};
 ghost use Rattle.duct_program.specs.Parsed.{RefusesAs};
 ghost use Rattle.duct_program.specs.declared.usage.Usage.{Usage};
 ghost use Rattle.duct_replay.specs.Judged.{IsRight};
-ghost use Rattle.duct_replay.specs.Replays.{ReplayView};
+ghost use Rattle.duct_replay.specs.Lines.{recorded_text, recorded_view};
+ghost use Rattle.duct_replay.specs.RecordingView.{RecordingView};
 ghost use Rattle.duct_replay.specs.declared.judgement.Verdict.{Verdict};
-ghost use Rattle.duct_replay.specs.declared.judgement.Verdict.TheVariants.{Yes};
-ghost use Rattle.trace.specs.JudgedLine.{IsJudged};
+ghost use Rattle.trace.specs.Commands.{IsJudged, IsReplayed};
 
 use duct::{Entry, Expression, Hook, Numbered, System};
 use duct_program::{NoHook, Program, Usage, line, path_and_words, perform, text_at};
 use duct_replay::{
-    Recording, Refusal, Replay, ReplayEnd, ReplayReader, Verdict, judge, read_recording,
+    Recording, Records, Refusal, Replay, ReplayEnd, ReplayReader, Variables, Verdict, judge,
+    read_recording, recording_text,
 };
-use duct_system::views::Viewed;
 use duct_shell::RequestText;
+use duct_system::views::Viewed;
 use std::alloc::{AllocError, Global};
-use std::io::{Read, Write};
+use std::fs::{OpenFile, OpenOptions, Permissions};
+use std::io::{self, Read, Write};
+use std::os::unix::fs::{OpenOptionsExt, PermissionsExt};
 use std::rt::Files;
 use std::sync::Wait;
+
+const RECORD: Program = Program {
+    no_memory: "record: out of memory\n",
+    failed: 3,
+};
+
+/// Makes the file of a journal, or empties it if it is there. If it is a regular file, it is then
+/// its owner's alone. Fails, with what was there unchanged, if the file can't be written.
+fn journal_file<R: Files>(rt: &R, path: &str) -> io::Result<R::File> {
+    let owner = 0o600;
+    let mut options = OpenOptions::new();
+    let file = options.write(true).create(true).mode(owner).open(rt, path)?;
+    if file.metadata()?.is_file() {
+        file.set_permissions(Permissions::from_mode(owner))?;
+        file.set_len(0)?;
+    }
+    Ok(file)
+}
+
+/// Does what the arguments ask for. Returns the status.
+pub fn recorded<R: Files + Wait + AllocGlobal, S: Records, O: Write, E: Write>(
+    rt: &R,
+    sys: &mut S,
+    arguments: &[String],
+    out: &mut O,
+    err: &mut E,
+) -> u8 {
+    let (variables, arguments) = match arguments.split_first() {
+        Some((first, others)) if first.as_str() == "--hide" => (Variables::Hidden, others),
+        Some(_) | None => (Variables::Shown, arguments),
+    };
+    let Some((path, words)) = path_and_words(arguments) else {
+        let usage = "record: usage: trace record [--hide] JOURNAL -- WORD..\n";
+        return RECORD.tell(err, 2, usage);
+    };
+    match journal_file(rt, path) {
+        Ok(mut file) => record(rt, rt.alloc(), sys, words, variables, &mut file, out, err),
+        Err(error) => RECORD.tell_error(err, &error, 2, "record: journal can't be opened\n"),
+    }
+}
+
+/// Does the work of `host` by `perform`, and returns its status. Whatever that is, the text of the
+/// recording is then written to `journal`. If that can't be written, or memory runs out for it,
+/// that is said on `err`, and the status is 3; a part of it may be written. It blocks as `perform`
+/// and the writers do.
+fn record<S: Records, J: Write, O: Write, E: Write>(
+    rt: &impl Wait,
+    alloc: Global,
+    sys: &mut S,
+    args: &[String],
+    variables: Variables,
+    journal: &mut J,
+    out: &mut O,
+    err: &mut E,
+) -> u8
+    ensures text { result ≡ 0 → WritesText ⟦<S as Viewed>⟧.views ⟦<NoHook as Hook>⟧.allows
+        S.may_read S.Reader.remaining O.contents (map string_bytes args.now) sys.old sys.new
+        out.old out.new err.old err.new }
+    ensures usage { result ≡ 2 → WritesUsage ⟦<S as Viewed>⟧.views ⟦<NoHook as Hook>⟧.allows
+        S.may_read S.Reader.remaining E.contents (map string_bytes args.now) sys.old sys.new
+        out.old out.new err.old err.new }
+    ensures journal { result ≤ 2 → (recording : RecordingView)
+        × (recording.entries ≡ (S.journal_view sys.new).entries)
+        × S.may_record sys.new recording
+        × Appends (J.contents journal.old) (J.contents journal.new)
+        (recorded_text variables (recorded_view recording)) }
+    ensures one { result ≤ 2 → (out.new ≡ out.old) ⊎ (err.new ≡ err.old) }
+    ensures status { result ≤ 3 }
+{
+    let status = perform(rt, alloc, sys, args, out, err);
+    let Ok(recording) = sys.recording() else {
+        return RECORD.tell(err, 3, RECORD.no_memory);
+    };
+    let Ok(text) = recording_text(alloc, &recording, variables) else {
+        return RECORD.tell(err, 3, RECORD.no_memory);
+    };
+    match journal.write_all(text.as_bytes()) {
+        Ok(()) => status,
+        Err(error) => RECORD.tell_error(err, &error, 3, "record: journal can't be written\n"),
+    }
+}
 
 /// A command that reads what `trace record` wrote, and what it says where that can't be read.
 #[derive(Clone, Copy)]
@@ -62,7 +147,7 @@ pub fn recording_of<'a, R: Files + AllocGlobal, I: Read, E: Write>(
     arguments: &'a [String],
     err: &mut E,
 ) -> Result<(Recording, &'a [String]), u8> {
-    let program = &reading.program;
+    let (program, name) = (&reading.program, reading.name);
     let Some((path, words)) = path_and_words(arguments) else {
         return Err(program.tell(err, 2, reading.usage));
     };
@@ -72,13 +157,8 @@ pub fn recording_of<'a, R: Files + AllocGlobal, I: Read, E: Write>(
     };
     match read_recording(rt.alloc(), text.as_str()) {
         Ok(recording) => Ok((recording, words)),
-        Err(at) if at.refusal == Refusal::Memory => {
-            Err(program.tell(err, program.failed, program.no_memory))
-        }
-        Err(at) => {
-            let name = reading.name;
-            Err(program.tell_made(err, 2, format!(in rt.alloc(); "{name}: {at}\n")))
-        }
+        Err(at) if at.refusal == Refusal::Memory => Err(program.tell(err, 3, program.no_memory)),
+        Err(at) => Err(program.tell_made(err, 2, format!(in rt.alloc(); "{name}: {at}\n"))),
     }
 }
 
@@ -94,13 +174,12 @@ pub fn judge_line<O: Write, E: Write>(
 ) -> u8
     ensures yes { result ≡ 0 → IsJudged ⟦<NoHook as Hook>⟧.allows ⟦<NoHook as Hook>⟧.refuses
         ⟦<ReplayEnd as Numbered>⟧.number_of (map string_bytes words.now) (map entry_view entries.now)
-        (λ verdict. verdict ≡ Yes)
+        (λ verdict. verdict ≡ Verdict.Yes)
         × Appends (O.contents out.old) (O.contents out.new) (codes "yes\n") × (err.new ≡ err.old) }
     ensures no { result ≡ 1 → IsJudged ⟦<NoHook as Hook>⟧.allows ⟦<NoHook as Hook>⟧.refuses
         ⟦<ReplayEnd as Numbered>⟧.number_of (map string_bytes words.now) (map entry_view entries.now)
-        (λ verdict. verdict ≢ Yes) × (err.new ≡ err.old) }
-    ensures usage { result ≡ 2 → (usage : Usage)
-        × RefusesAs usage (line_of
+        (λ verdict. verdict ≢ Verdict.Yes) × (err.new ≡ err.old) }
+    ensures usage { result ≡ 2 → (usage : Usage) × RefusesAs usage (line_of
         ⟦<ReplayEnd as Numbered>⟧.number_of ⟦<NoHook as Hook>⟧.allows (map string_bytes words.now))
         × (out.new ≡ out.old) }
     ensures status { result ≤ 3 }
@@ -139,8 +218,7 @@ fn no_line(
             format!(in alloc; "no: entry {place} differs: {found} in place of {due}\n")
         }
         Verdict::Ends(place) => {
-            let due = RequestText(&made[place]);
-            format!(in alloc; "no: ends where {due} was due\n")
+            format!(in alloc; "no: ends where {} was due\n", RequestText(&made[place]))
         }
         Verdict::GoesOn(place) => format!(in alloc; "no: goes on at entry {place}\n"),
     }
@@ -157,26 +235,22 @@ pub fn replay<O: Write, E: Write>(
     out: &mut O,
     err: &mut E,
 ) -> u8
-    ensures text { result ≡ 0 → (begun ended : ReplayView) × (begun.recording ≡ recording)
-        × (begun.journal.entries ≡ []) × (ended.difference ≡ None)
-        × WritesText ⟦<Replay as Viewed>⟧.views ⟦<NoHook as Hook>⟧.allows
-        ⟦<Replay as System>⟧.may_read ⟦<ReplayReader as Read>⟧.remaining O.contents
-        (map string_bytes args.now) begun ended out.old out.new err.old err.new }
-    ensures usage { result ≡ 2 → (begun ended : ReplayView) × (begun.recording ≡ recording)
-        × (begun.journal.entries ≡ []) × (ended.difference ≡ None)
-        × WritesUsage ⟦<Replay as Viewed>⟧.views ⟦<NoHook as Hook>⟧.allows
-        ⟦<Replay as System>⟧.may_read ⟦<ReplayReader as Read>⟧.remaining E.contents
-        (map string_bytes args.now) begun ended out.old out.new err.old err.new }
+    ensures text { result ≡ 0 → IsReplayed recording (λ begun ended. WritesText
+        ⟦<Replay as Viewed>⟧.views ⟦<NoHook as Hook>⟧.allows ⟦<Replay as System>⟧.may_read
+        ⟦<ReplayReader as Read>⟧.remaining O.contents (map string_bytes args.now) begun ended
+        out.old out.new err.old err.new) }
+    ensures usage { result ≡ 2 → IsReplayed recording (λ begun ended. WritesUsage
+        ⟦<Replay as Viewed>⟧.views ⟦<NoHook as Hook>⟧.allows ⟦<Replay as System>⟧.may_read
+        ⟦<ReplayReader as Read>⟧.remaining E.contents (map string_bytes args.now) begun ended
+        out.old out.new err.old err.new) }
     ensures status { result ≤ 3 }
 {
     let mut replay = Replay::new(alloc, recording);
     let status = perform(rt, alloc, &mut replay, args, out, err);
+    let program = REPLAY.program;
     match replay.difference() {
         None => status,
-        Some(place) => {
-            let line = difference_line(alloc, place, &replay);
-            REPLAY.program.tell_made(err, 3, line)
-        }
+        Some(place) => program.tell_made(err, 3, difference_line(alloc, place, &replay)),
     }
 }
 

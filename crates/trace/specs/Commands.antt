@@ -1,11 +1,13 @@
--- What `trace judge` says of words and of the entries of a journal.
-use Rattle.std.specs.Prelude.{ℕ, List, ◌≡◌, Ok}
+-- What `trace judge` says of words and of the entries of a journal, and what `trace replay` ran.
+use Rattle.std.specs.Prelude.{ℕ, List, [], ◌≡◌, Ok, None}
 use Rattle.duct_system.specs.EntryView.{EntryView}
 use Rattle.duct_system.specs.Journal.{JournalView}
 use Rattle.duct_start.specs.Chain.{Allows, Refuses}
 use Rattle.duct_start.specs.TreeView.{TreeView}
 use Rattle.duct_program.specs.Line.{meant}
 use Rattle.duct_replay.specs.Judged.{Judges}
+use Rattle.duct_replay.specs.RecordingView.{RecordingView}
+use Rattle.duct_replay.specs.Replays.{ReplayView}
 use Rattle.duct_replay.specs.declared.judgement.Verdict.{Verdict}
 
 -- the words mean an expression, and this holds of the verdict on these entries by its start
@@ -15,3 +17,10 @@ IsJudged {E} {H} allows refuses number_of words recorded holds =
     (tree : TreeView E H) × (meant words ≡ Ok tree)
     × ((verdict : Verdict) × (made : JournalView)
     × Judges allows refuses number_of tree recorded verdict made × holds verdict)
+
+-- this holds of a replay of a recording, from before its first request to its end, and no request
+-- differed
+abbrev pub IsReplayed : RecordingView → (ReplayView → ReplayView → Type 0) → Type 0
+IsReplayed recording holds =
+    (begun ended : ReplayView) × (begun.recording ≡ recording) × (begun.journal.entries ≡ [])
+    × (ended.difference ≡ None) × holds begun ended
