@@ -31,11 +31,9 @@ folder_form None = plain []
 abbrev pub parents_text : Stream → Stream → List ℕ
 parents_text stream In = codes "inherited"
 parents_text Out Out = codes "inherited"
-parents_text In Out = codes "the parent's stdout"
-parents_text Err Out = codes "the parent's stdout"
 parents_text Err Err = codes "inherited"
-parents_text In Err = codes "the parent's stderr"
-parents_text Out Err = codes "the parent's stderr"
+parents_text stream Out = codes "the parent's stdout"
+parents_text stream Err = codes "the parent's stderr"
 
 -- where a stream goes
 abbrev pub target_form : {E : Type 0} → Stream → Target E → Form
@@ -47,19 +45,16 @@ target_form stream (FileAt place) = of_place (codes "file ") place
 target_form stream (Lends end) = plain (codes "an end of the caller")
 
 -- words, then a variable with its value
-abbrev pub of_variable : List ℕ → List ℕ → List ℕ → Form
-of_variable words name value =
-    joined (plain words ∷ quote name ∷ plain (codes "=") ∷ quote value ∷ [])
-
--- one of the variables that replace all others
-abbrev pub variable_form : List ℕ × List ℕ → Form
-variable_form variable = of_variable (codes " ") variable.0 variable.1
+abbrev pub of_variable : List ℕ → List ℕ × List ℕ → Form
+of_variable words variable =
+    joined (plain words ∷ quote variable.0 ∷ plain (codes "=") ∷ quote variable.1 ∷ [])
 
 -- a change of the variables
 abbrev pub change_form : VariableChange → Form
-change_form (Sets name value) = of_variable (codes " with ") name value
+change_form (Sets name value) = of_variable (codes " with ") (name, value)
 change_form (Removes name) = of_text (codes " without ") name
-change_form (Replaces vars) = before (plain (codes " with only")) (each_form variable_form vars)
+change_form (Replaces vars) =
+    before (plain (codes " with only")) (each_form (of_variable (codes " ")) vars)
 
 -- a program: unknown where its canonical path is requested first
 unfoldable pub program_form : {E H : Type 0} → Surroundings E H → List (List ℕ) → Form
@@ -75,8 +70,7 @@ hooks_form (hook ∷ hooks) = of_place (codes ", hooks ") (length (hook ∷ hook
 unfoldable pub stream_form : {E : Type 0} → List ℕ → Stream → Target E → Form
 stream_form name stream target = joined (plain name ∷ target_form stream target ∷ [])
 
--- what is started: a program, its arguments, its folder and the changes of its variables, the
--- nearest first
+-- what is started: a program, its arguments, its folder and its changes, the nearest first
 unfoldable pub command_form : {E H : Type 0} → Surroundings E H → List (List ℕ) → Form
 command_form found words =
     joined (program_form found words ∷ each_form (of_text (codes " ")) (drop 1 words)

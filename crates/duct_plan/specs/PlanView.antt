@@ -1,6 +1,5 @@
 -- A plan of the code as contracts see it.
-use Rattle.std.specs.Prelude.{List, map, string_bytes}
-use Rattle.std.specs.Borrow.{Bor}
+use Rattle.std.specs.Prelude.{map, string_bytes}
 use Rattle.std.specs.Option.{option_copied}
 use Rattle.duct_system.specs.SpecView.{var_view}
 use Rattle.duct_start.specs.Plan as plan
@@ -30,10 +29,6 @@ change_of (Sets name value) = outwards.Sets name.now value.now
 change_of (Removes name) = outwards.Removes name.now
 change_of (Replaces vars) = outwards.Replaces (map var_view vars.now.entries)
 
--- a hook with its ends
-abbrev pub hook_of : {E H : Type 0} → Bor H × Bor (List E) → H × List E
-hook_of hook = (hook.0.now, hook.1.now)
-
 -- what a command finds
 abbrev pub found_of : {E H : Type 0} → Surroundings E H → outwards.Surroundings E H
 found_of found = record {
@@ -42,7 +37,7 @@ found_of found = record {
   input = target_of found.input;
   output = target_of found.output;
   error = target_of found.error;
-  hooks = map hook_of found.hooks.items;
+  hooks = map (λ hook. (hook.0.now, hook.1.now)) found.hooks.items;
 }
 
 -- one request

@@ -31,8 +31,7 @@ impl<E, H> fmt::Display for PlanDot<'_, '_, E, H> {
                     write!(f, "  n{place} [label={path:?}, shape=note];\n")?
                 }
                 Item::Spawn(found, words) => {
-                    let program = program_of(words);
-                    write!(f, "  n{place} [label={program:?}")?;
+                    write!(f, "  n{place} [label={:?}", program_of(words))?;
                     for argument in words.get(1..).unwrap_or(&[]) {
                         write!(f, " + \" \" + {argument:?}")?;
                     }

@@ -5,10 +5,10 @@ ghost use Rattle.duct_system.specs.declared.spec.Stream.TheVariants.{In};
 ghost use Rattle.duct_run.proofs.PlanInward.{surroundings_within};
 ghost use Rattle.duct_start.specs.Lookup.{resolved_turn};
 ghost use Rattle.duct_start.specs.Step as node;
-ghost use Rattle.duct_start.specs.Step.{step_if_setting, step_of_row};
+ghost use Rattle.duct_start.specs.Step.{step_of_row};
 ghost use Rattle.duct_start.specs.Surroundings as outwards;
 ghost use Rattle.duct_start.specs.Surroundings.{root_surroundings};
-ghost use Rattle.duct_tree.specs.EffectView.{effect_view, input_route_view, opening_view, output_route_view, says_view};
+ghost use Rattle.duct_tree.specs.EffectView.{effect_view, input_route_view, opening_view, output_route_view};
 ghost use Rattle.duct_plan.specs.PlanView.{found_of, target_of};
 
 use duct::{Side, Stream};
@@ -134,23 +134,27 @@ impl<'t, E, H> Surroundings<'t, E, H> {
         ensures { OnOk result (found_of self.new ≡ surroundings_within
             (step_of_row (effect_view effect.entry)) place (found_of self.old)) }
     {
-        let input = self.input_inside(effect.input, effect.opening, place);
-        let output = self.output_inside(effect.output, effect.opening, place);
-        let error = self.output_inside(effect.error, effect.opening, place);
-        self.set(effect.setting)?;
-        self.input = input;
+        let input = self.input(effect.input, effect.opening, place);
+        let output = self.output(effect.output, effect.opening, place);
+        self.error = self.output(effect.error, effect.opening, place);
         self.output = output;
-        self.error = error;
-        Ok(())
+        self.input = input;
+        let change = match effect.setting {
+            None => return Ok(()),
+            Some(Setting::Dir(path)) => {
+                self.folder = Some(path);
+                return Ok(());
+            }
+            Some(Setting::BeforeSpawn(hook, ends)) => return Ok(self.hooks.push((hook, ends))?),
+            Some(Setting::Env(name, value)) => VariableChange::Sets(name.as_str(), value),
+            Some(Setting::EnvRemove(name)) => VariableChange::Removes(name.as_str()),
+            Some(Setting::FullEnv(vars)) => VariableChange::Replaces(vars),
+        };
+        Ok(self.changes.insert(0, change)?)
     }
 
     // Returns where stdin goes that takes this route inside a node at this place.
-    fn input_inside(
-        &self,
-        route: InputRoute<'t, E>,
-        opening: Opening<'t>,
-        place: usize,
-    ) -> Target<'t, E>
+    fn input(&self, route: InputRoute<'t, E>, opening: Opening<'t>, place: usize) -> Target<'t, E>
         ensures { target_of result ≡ resolved_turn (node.turn_of (λ stream. In)
             (opening_view opening.entry) place (input_route_view route.entry))
             (outwards.target_of (found_of self.now)) }
@@ -164,12 +168,7 @@ impl<'t, E, H> Surroundings<'t, E, H> {
     }
 
     // Returns where stdout or stderr goes that takes this route inside a node at this place.
-    fn output_inside(
-        &self,
-        route: OutputRoute<'t, E>,
-        opening: Opening<'t>,
-        place: usize,
-    ) -> Target<'t, E>
+    fn output(&self, route: OutputRoute<'t, E>, opening: Opening<'t>, place: usize) -> Target<'t, E>
         ensures { target_of result ≡ resolved_turn (node.turn_of node.stream_on
             (opening_view opening.entry) place (output_route_view route.entry))
             (outwards.target_of (found_of self.now)) }
@@ -181,27 +180,6 @@ impl<'t, E, H> Surroundings<'t, E, H> {
             OutputRoute::Lent(end) => Target::Lends(end),
             OutputRoute::Opened => opened_target(opening, place),
         }
-    }
-
-    // Goes on to what is found inside a node that only sets this, if anything; at no place it does
-    // something else.
-    fn set(&mut self, setting: Option<Setting<'t, E, H>>) -> Result<(), AllocError>
-        ensures { OnOk result (found_of self.new
-            ≡ surroundings_within (step_if_setting (says_view setting.entry)) 0
-            (found_of self.old)) }
-    {
-        let change = match setting {
-            None => return Ok(()),
-            Some(Setting::Dir(path)) => {
-                self.folder = Some(path);
-                return Ok(());
-            }
-            Some(Setting::BeforeSpawn(hook, ends)) => return Ok(self.hooks.push((hook, ends))?),
-            Some(Setting::Env(name, value)) => VariableChange::Sets(name.as_str(), value),
-            Some(Setting::EnvRemove(name)) => VariableChange::Removes(name.as_str()),
-            Some(Setting::FullEnv(vars)) => VariableChange::Replaces(vars),
-        };
-        Ok(self.changes.insert(0, change)?)
     }
 }
 

@@ -33,8 +33,7 @@ pub fn preview(alloc: Global, args: &[String]) -> Result<String, Usage>
         (λ usage. RefusesAs usage (line_of (map string_bytes args.now))) }
 {
     let expression: Expression<NoEnd, NoHook> = line(alloc, args)?;
-    let plan = plan_of_reader(alloc, &expression)?;
-    Ok(PlanText(&plan).to_string(alloc)?)
+    Ok(PlanText(&plan_of_reader(alloc, &expression)?).to_string(alloc)?)
 }
 
 /// Returns what `host` will request of the system for these arguments, as a graph in the DOT

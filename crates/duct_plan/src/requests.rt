@@ -1,7 +1,7 @@
 //! The requests of a start, computed from the tree alone.
 ghost use Rattle.std.specs.Prelude.{◌≡◌, ◌+◌, ◌<◌, IfOk, OnOk, map, string_bytes};
 ghost use Rattle.duct_run.proofs.PlanInward.{plan_inward};
-ghost use Rattle.duct_start.specs.Plan.{with_item, with_capture, with_opening, place_for, with_closing, program_of, is_canonical, with_command, initial_plan, with_drain, plan_of, plan_of_reader};
+ghost use Rattle.duct_start.specs.Plan.{with_item, with_capture, with_opening, place_for, with_closing, program_of, is_canonical, initial_plan, with_drain, plan_of, plan_of_reader};
 ghost use Rattle.duct_start.specs.Step.{Captures, closing_of, opening_of};
 ghost use Rattle.duct_tree.specs.EffectView.{opening_view};
 ghost use Rattle.duct_tree.specs.NodeView.{node_view};
@@ -73,7 +73,7 @@ enum Task<'t, E, H> {
     /// Adds the requests of a tree. Its commands find this, and what the tree's own nodes set.
     Visit(Surroundings<'t, E, H>, &'t Node<E, H>),
     /// Adds the request that a node at this place which opens this makes after its inner
-    /// expression's.
+    /// expression's: for an input, the worker that feeds the bytes to its pipe.
     Close(Opening<'t>, usize),
 }
 
@@ -147,7 +147,12 @@ impl<'t, E: Drop, H: Drop> Plan<'t, E, H> {
             < tasks_left tasks.old.items + tasks_of_tree (node_view node.now)) }
     {
         match node {
-            Node::Cmd(words) => self.add_command(found, words.as_slice()),
+            Node::Cmd(words) => {
+                if is_canonical(&found, words.as_slice()) {
+                    self.add(Item::Canonicalize(program_of(words.as_slice())))?;
+                }
+                self.add(Item::Spawn(found, words.as_slice()))
+            }
             Node::Pipe(left, right) => {
                 let place = self.items.len();
                 let mut reading = found.copied(alloc)?;
@@ -166,22 +171,6 @@ impl<'t, E: Drop, H: Drop> Plan<'t, E, H> {
                 Ok(())
             }
         }
-    }
-
-    // Adds a command that finds this: first the request for its program's canonical path, if it is
-    // needed, and then its spawn.
-    fn add_command(
-        &mut self,
-        found: Surroundings<'t, E, H>,
-        words: &'t [String],
-    ) -> Result<(), AllocError>
-        ensures { OnOk result (plan_view self.new ≡ with_command (found_of found.entry)
-            (map string_bytes words.now) (plan_view self.old)) }
-    {
-        if is_canonical(&found, words) {
-            self.add(Item::Canonicalize(program_of(words)))?;
-        }
-        self.add(Item::Spawn(found, words))
     }
 
     // Adds the request that a node which opens this makes before those of its inner expression.
@@ -221,14 +210,16 @@ impl<'t, E: Drop, H: Drop> Plan<'t, E, H> {
     }
 
     // Adds the request that a node at this place which opens this makes after those of its inner
-    // expression: for an input, the worker that feeds the bytes to its pipe.
+    // expression.
     fn close(&mut self, opening: Opening<'t>, place: usize) -> Result<(), AllocError>
         ensures { OnOk result (plan_view self.new
             ≡ with_closing (closing_of (opening_view opening.entry) place) (plan_view self.old)) }
     {
         match opening {
             Opening::Input(bytes) => self.add(Item::Feed(place, bytes.as_slice())),
-            _ => Ok(()),
+            Opening::Nothing | Opening::Read(_) | Opening::Create(_) | Opening::Capture(_) => {
+                Ok(())
+            }
         }
     }
 }

@@ -5,7 +5,7 @@ ghost use Rattle.std.specs.Option.{option_copied};
 ghost use Rattle.duct_system.specs.SpecView.{var_view};
 ghost use Rattle.duct_tree.specs.Text.{printed};
 ghost use Rattle.duct_plan.specs.PlanView.{change_of, found_of, item_of, target_of};
-ghost use Rattle.duct_plan.specs.PlanForm.{change_form, command_form, each_form, folder_form, hooks_form, item_form, line_form, of_text, parents_text, program_form, spawn_form, stream_form, variable_form};
+ghost use Rattle.duct_plan.specs.PlanForm.{change_form, command_form, each_form, folder_form, hooks_form, item_form, line_form, of_text, of_variable, parents_text, program_form, spawn_form, stream_form};
 
 use crate::items::{Item, Plan, Surroundings, Target, VariableChange};
 use crate::requests::{is_canonical, program_of};
@@ -30,10 +30,8 @@ impl<E, H> fmt::Display for PlanText<'_, '_, E, H> {
     ghost output = { λ text. plan_text (plan_view text.0.now) };
 
     fn fmt<W: Write>(&self, f: &mut Formatter<W>) -> fmt::Result {
-        let mut place: usize = 0;
-        for item in self.0.items.as_slice() {
+        for (place, item) in self.0.items.iter().enumerate() {
             item.write_line(place, f)?;
-            place += 1;
         }
         Ok(())
     }
@@ -107,8 +105,7 @@ impl<E, H> Surroundings<'_, E, H> {
         if is_canonical(self, words) {
             return f.write_str("?");
         }
-        let program = program_of(words);
-        write!(f, "{program:?}")
+        write!(f, "{:?}", program_of(words))
     }
 }
 
@@ -169,7 +166,7 @@ fn write_variables<W: Write>(
     f: &mut Formatter<W>,
 ) -> fmt::Result
     ensures { DisplaysOnOk W.write_str_gives f.old result
-        (printed (each_form variable_form (map var_view rest.entry))) f.new }
+        (printed (each_form (of_variable (codes " ")) (map var_view rest.entry))) f.new }
 {
     match rest.next() {
         None => Ok(()),
@@ -216,9 +213,8 @@ fn parents_text(stream: Stream, parents: Stream) -> &'static str
 fn write_hooks<A, W: Write>(hooks: &[A], f: &mut Formatter<W>) -> fmt::Result
     ensures { DisplaysOnOk W.write_str_gives f.old result (printed (hooks_form hooks.now)) f.new }
 {
-    let count = hooks.len();
-    if count == 0 {
-        return Ok(());
+    match hooks.len() {
+        0 => Ok(()),
+        count => write!(f, ", hooks {count}"),
     }
-    write!(f, ", hooks {count}")
 }

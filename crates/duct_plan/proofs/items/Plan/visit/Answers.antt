@@ -18,13 +18,13 @@ returns-in_ok-push-in-Pipe-2-clause-plan g c =
     let plan = plan_view c.args.self.now in
     let place = c.len-place.result in
     rw c.in-Pipe.is
-    (IfOk-weaker c.add.result _ _
+    (IfOk-weaker c.add-in-Pipe.result _ _
     (λ _ is. after_two _ _ _ _ _ _ _ c.in_ok-push-in-Pipe.ensures.items c.in_ok-push-in-Pipe-2.ensures.items
     (pipe_inside (node_view c.deref-in-Pipe-2.result.now) (node_view c.deref-in-Pipe.result.now) place found _ _ plan _
     (λ i. record (c.in_ok-reading-in-Pipe.ensures i) { input = ReaderAt place }) refl
     (omega (arith, c.len-place.ensures, length-map c.args.self.now.items.items item_of)) is
     ∙ (λ i. plan_inward found (pipe (node_view (c.deref-in-Pipe-2.ensures i)) (node_view (c.deref-in-Pipe.ensures i))) plan)))
-    c.add.ensures)
+    c.add-in-Pipe.ensures)
 
 pub returns-in_ok-push-in-Io-2-clause-plan : goal.returns-in_ok-push-in-Io-2-clause-plan
 returns-in_ok-push-in-Io-2-clause-plan g c =
