@@ -11,7 +11,7 @@ use Rattle.duct_start.specs.Plan.{plan_of_reader}
 use Rattle.duct_start.specs.Running.{RunningView}
 use Rattle.duct_start.specs.Start.{StartRefused, StartSucceeds}
 use Rattle.duct_start.specs.TreeView.{TreeView}
-use Rattle.duct_run.specs.SystemViews.{SystemViews}
+use Rattle.duct_system.specs.SystemViews.{SystemViews}
 use Rattle.duct_running.specs.Stored.{Bytes}
 use Rattle.duct.specs.Launched.{Ran, ReadFails, Reads, added_between, reading}
 use Rattle.duct_program.specs.Line.{meant}

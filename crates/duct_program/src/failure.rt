@@ -22,9 +22,8 @@ impl Failure {
         ensures { result ≡ status_of self.now }
     {
         match self {
-            Failure::Usage(Usage::Memory) => 1,
+            Failure::Usage(Usage::Memory) | Failure::Error(_) => 1,
             Failure::Usage(_) => 2,
-            Failure::Error(_) => 1,
         }
     }
 }

@@ -11,11 +11,7 @@ use std::{env, fs, io};
 /// Returns the arguments after the program's own name. Fails if one of them is not UTF-8, or if
 /// memory runs out.
 pub fn arguments<R: Env + AllocGlobal>(rt: &R) -> io::Result<Vec<String>> {
-    let mut words = Vec::new(rt.alloc());
-    for word in env::args(rt)?.skip(1) {
-        words.push(word)?;
-    }
-    Ok(words)
+    Ok(env::args(rt)?.skip(1).collect(rt.alloc())?)
 }
 
 /// Returns a path and words that stand in front of the mark `--` and behind it, or `None` where the
