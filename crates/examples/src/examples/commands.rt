@@ -140,20 +140,20 @@ fn commands_print(rt: HostRuntime) -> Result<(), Fail> {
     Ok(())
 }
 
-/// Returns why pipes fail whose failures are excused.
-fn unexcused<S: System, R: Wait>(sh: &mut Shell<S, R>) -> Result<String, Failure> {
+/// Returns why pipes fail whose failures are excused, and why a command can't be started.
+fn reasons<S: System, R: Wait>(sh: &mut Shell<S, R>) -> Result<String, Failure> {
     let pipes = excused(&sh.cmd("false", &[])?, &sh.cmd("sh", &["-c", "exit 3"])?)?;
-    told(sh, &pipes)
+    let mut text = told(sh, &pipes)?;
+    text.push_str(unfound(&sh.rt, sh.alloc, &mut sh.system)?.as_str())?;
+    Ok(text)
 }
 
 #[test]
 fn commands_fail(rt: HostRuntime) -> Result<(), Fail> {
-    let mut sh = Shell::new(&rt);
-    let reasons = "command [\"sh\", \"-c\", \"exit 3\"] exited with code 3; \
-command [\"false\"] exited with code 1; ; ";
-    assert_eq!(rt; unexcused(&mut sh)?.as_str(), reasons);
-    let reason = unfound(&rt, rt.alloc(), &mut sh.system)?;
-    assert_eq!(rt; reason.as_str(), "spawn of \"no-such-program\": NotFound");
+    let reasons = reasons(&mut Shell::new(&rt))?;
+    let wanted = "command [\"sh\", \"-c\", \"exit 3\"] exited with code 3; \
+command [\"false\"] exited with code 1; ; spawn of \"no-such-program\": NotFound";
+    assert_eq!(rt; reasons.as_str(), wanted);
     Ok(())
 }
 

@@ -8,12 +8,20 @@ ghost use Rattle.duct_start.specs.TreeView.{around, stdout_file};
 ghost use Rattle.duct.specs.TreeView.{tree_view};
 
 use duct::{Error, Expression, Handle, Hook, Pool, System, cmd};
-use duct_host::End;
+use duct_host::{Host, Parents};
 use duct_shell::{Failure, Shell};
-use std::fs::{self, OpenOptions};
+use std::fs::{self, File, OpenOptions};
 use std::io::{self, Write};
+use std::process::Processes;
+use std::rt::{Env, Files};
 use std::sync::Wait;
 use std::test::Fail;
+use std::thread::Threads;
+
+/// What the machine has to give to commands with open files.
+trait Machine: Processes + Files<File = File> + Env + Parents + Threads + Wait {}
+
+impl<R: Processes + Files<File = File> + Env + Parents + Threads + Wait> Machine for R {}
 
 /// Starts a command that holds no end, with its stdout at an end to which this system gave its
 /// number before. Such a start is proved to follow its plan exactly.
@@ -53,10 +61,8 @@ fn ask<S: System, R: Wait + Clone + Drop, W: Write + Drop>(
     Ok(String::from_utf8_lossy(sh.alloc, answer)?)
 }
 
-#[test]
-fn a_file_grows(rt: HostRuntime) -> Result<(), Fail> {
-    let mut sh = Shell::new(&rt);
-    let path = "grown";
+/// Appends what commands print to a file.
+fn grow<R: Machine>(sh: &mut Shell<Host<&R>, &R>, path: &str) -> Result<(), Failure> {
     for word in ["one", "two"] {
         let command = sh.cmd("echo", &[word])?;
         let file = OpenOptions::new()
@@ -66,17 +72,28 @@ fn a_file_grows(rt: HostRuntime) -> Result<(), Fail> {
         let end = sh.system.adopt_file(file)?;
         sh.run(&command.stdout_file(end)?)?;
     }
-    assert_eq!(rt; fs::read_to_string(&rt, path)?.as_str(), "one\ntwo\n");
     Ok(())
 }
 
 #[test]
-fn a_program_answers(rt: HostRuntime) -> Result<(), Fail> {
-    let mut sh = Shell::new(&rt);
+fn a_file_grows(rt: HostRuntime) -> Result<(), Fail> {
+    let path = "grown";
+    grow(&mut Shell::new(&rt), path)?;
+    assert_eq!(rt; fs::read_to_string(&rt, path)?.as_str(), "one\ntwo\n");
+    Ok(())
+}
+
+/// Returns what a program answers.
+fn answer<R: Machine>(sh: &mut Shell<Host<&R>, &R>) -> Result<String, Failure> {
     let program = sh.cmd("cat", &[])?;
     let (input, questions) = io::pipe(sh.rt)?;
     let input = sh.system.adopt_reader(input)?;
-    let answer = ask(&mut sh, &program.stdin_file(input)?, questions, "why\n")?;
-    assert_eq!(rt; answer.as_str(), "why\n");
+    let answer = ask(sh, &program.stdin_file(input)?, questions, "why\n")?;
+    Ok(answer)
+}
+
+#[test]
+fn a_program_answers(rt: HostRuntime) -> Result<(), Fail> {
+    assert_eq!(rt; answer(&mut Shell::new(&rt))?.as_str(), "why\n");
     Ok(())
 }

@@ -38,14 +38,19 @@ fn passes<S: System, R: Wait, C: Clock>(
     }
 }
 
+/// Returns what comes of these steps.
+fn told<S: System, R: Wait, C: Clock>(sh: &mut Shell<S, R>, clock: &C) -> Result<String, Failure> {
+    let (output, failed) = piped(sh)?;
+    let filed = filed(sh, "filed")?;
+    let test = sh.cmd("test", &["-e", "filed"])?;
+    let passes = passes(sh, clock, &test, Duration::from_secs(60))?;
+    Ok(format!(in sh.alloc; "{output:?}; {failed:?}; {filed}; {passes}")?)
+}
+
 #[test]
 fn first_steps(rt: HostRuntime) -> Result<(), Fail> {
-    let (mut sh, clock) = (Shell::new(&rt), HostClock::new(&rt)?);
-    let (output, failed) = piped(&mut sh)?;
-    let filed = filed(&mut sh, "filed")?;
-    let test = sh.cmd("test", &["-e", "filed"])?;
-    let passes = passes(&mut sh, &clock, &test, Duration::from_secs(60))?;
-    let told = format!(in sh.alloc; "{output:?}; {failed:?}; {filed}; {passes}")?;
+    let clock = HostClock::new(&rt)?;
+    let told = told(&mut Shell::new(&rt), &clock)?;
     let wanted = "Output { status: Code(0), stdout: [72, 69, 76, 76, 79, 10], \
 stderr: [99, 97, 114, 101, 102, 117, 108, 10] }; \
 Err(command [\"sh\", \"-c\", \"exit 3\"] exited with code 3); me\n/; true";

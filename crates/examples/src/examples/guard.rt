@@ -71,36 +71,48 @@ fn read_kept<S: System + Drop>(
     read_under(policy, rt, alloc, system, &mut Pool::new(alloc), step).returned
 }
 
+/// Returns what comes of a step that is allowed, and of one that isn't.
+fn told<S: System + Drop>(rt: &impl Wait, alloc: Global, systems: (S, S)) -> Result<String, Error> {
+    let allowed = cmd!(in alloc; "/bin/echo", "compiled")?;
+    let (_system, printed) = read_step(rt, alloc, systems.0, &allowed);
+    let (_system, refused) = read_step(rt, alloc, systems.1, &cmd!(in alloc; "touch", "made")?);
+    Ok(format!(in alloc; "{printed:?}, {refused:?}")?)
+}
+
 #[test]
 fn a_step_starts_its_tools_alone(rt: HostRuntime) -> Result<(), Fail> {
     let alloc = rt.alloc();
-    let allowed: Expression<duct_host::End> = cmd!(in alloc; "/bin/echo", "compiled")?;
-    let (_system, printed) = read_step(&rt, alloc, Host::new(&rt, alloc), &allowed);
-    assert_eq!(rt; printed?.as_str(), "compiled");
-    let other: Expression<duct_host::End> = cmd!(in alloc; "touch", "made")?;
-    let (_system, refused) = read_step(&rt, alloc, Host::new(&rt, alloc), &other);
-    let told = format!(in alloc; "{refused:?}")?;
-    assert_eq!(rt;
-        told.as_str(),
-        "Err(System(Fault { kind: PermissionDenied }))"
-    );
+    let told = told(&rt, alloc, (Host::new(&rt, alloc), Host::new(&rt, alloc)))?;
+    let wanted = "Ok(\"compiled\"), Err(System(Fault { kind: PermissionDenied }))";
+    assert_eq!(rt; told.as_str(), wanted);
     Ok(())
+}
+
+/// Returns what comes of a step with a variable that isn't given, and with one whose name is free.
+fn told_kept<S: System + Drop>(
+    rt: &impl Wait,
+    alloc: Global,
+    systems: (S, S),
+) -> Result<String, Error> {
+    let echo = cmd!(in alloc; "echo", "kept")?;
+    let loads = read_kept(
+        rt,
+        alloc,
+        systems.0,
+        Vec::new(alloc),
+        &echo.env("LD_PRELOAD", "x")?,
+    );
+    let mut free = Vec::new(alloc);
+    free.push(String::from_str(alloc, "LANG")?)?;
+    let printed = read_kept(rt, alloc, systems.1, free, &echo.env("LANG", "C")?);
+    Ok(format!(in alloc; "{loads:?}, {printed:?}")?)
 }
 
 #[test]
 fn a_step_keeps_its_variables(rt: HostRuntime) -> Result<(), Fail> {
-    let (alloc, mut free) = (rt.alloc(), Vec::new(rt.alloc()));
-    let echo: Expression<duct_host::End> = cmd!(in alloc; "echo", "kept")?;
-    let loads = echo.env("LD_PRELOAD", "x")?;
-    assert!(rt; read_kept(&rt, alloc, Host::new(&rt, alloc), Vec::new(alloc), &loads).is_err());
-    free.push(String::from_str(alloc, "LANG")?)?;
-    let printed = read_kept(
-        &rt,
-        alloc,
-        Host::new(&rt, alloc),
-        free,
-        &echo.env("LANG", "C")?,
-    )?;
-    assert_eq!(rt; printed.as_str(), "kept");
+    let alloc = rt.alloc();
+    let told = told_kept(&rt, alloc, (Host::new(&rt, alloc), Host::new(&rt, alloc)))?;
+    let wanted = "Err(System(Fault { kind: PermissionDenied })), Ok(\"kept\")";
+    assert_eq!(rt; told.as_str(), wanted);
     Ok(())
 }

@@ -1,7 +1,7 @@
 //! Commands in the background: limits, signals, kills, starts that are tried again, and readers.
 use duct::unix::HandleExt;
 use duct::{Clock, Error, ExitStatus, Expression, Fault, Handle, Kind, Output, Pool, System, cmd};
-use duct_script::{PollAnswer, Script, ScriptEnd, Sort};
+use duct_script::{PollAnswer, Script, Sort};
 use duct_shell::{Failure, Shell, Tee, each_line, ended, run};
 use duct_tasks::start_attempts;
 use std::alloc::Global;
@@ -115,43 +115,52 @@ fn copied<S: System, W: Write>(
     Ok((bytes, whole))
 }
 
-#[test]
-fn a_start_is_tried_again(rt: HostRuntime) -> Result<(), Fail> {
-    let (mut system, mut pool) = (Script::new(rt.alloc())?, Pool::new(rt.alloc()));
+/// Starts a command at a system that refuses its first two starts. Returns whether it succeeds.
+fn succeeds_at_last(rt: &impl Wait, alloc: Global, system: &mut Script) -> Result<bool, Error> {
     system.polls(&[PollAnswer::Ended(ExitStatus::Code(0))])?;
     system.refuse_sort(Sort::Spawn, 1, Fault::new(Kind::Other))?;
     system.refuse_sort(Sort::Spawn, 2, Fault::new(Kind::Other))?;
-    let command: Expression<ScriptEnd> = cmd!(in rt.alloc(); "server")?;
-    let output = started_at_last(&rt, &mut system, &mut pool, &command)?;
-    assert!(rt; output.status.success());
+    let command = cmd!(in alloc; "server")?;
+    let output = started_at_last(rt, system, &mut Pool::new(alloc), &command)?;
+    Ok(output.status.success())
+}
+
+#[test]
+fn a_start_is_tried_again(rt: HostRuntime) -> Result<(), Fail> {
+    assert!(rt; succeeds_at_last(&rt, rt.alloc(), &mut Script::new(rt.alloc())?)?);
     Ok(())
+}
+
+/// Kills a group that holds its stdout. Returns how its command ended.
+fn killed_group<S: System, R: Wait>(sh: &mut Shell<S, R>) -> Result<ExitStatus, Failure> {
+    let left = cmd!(in sh.alloc; "setsid", "sh", "-c", "sleep 1000 & sleep 1000")?;
+    let handle = sh.start(&left.stdout_capture()?.unchecked()?)?;
+    let slept = run!(sh; "sleep", "0.5"); // until `setsid` has made the group
+    let killed = kill_groups(sh, &handle);
+    let output = sh.wait(handle); // it comes once no process holds stdout
+    slept?;
+    killed?;
+    Ok(output?.status)
 }
 
 #[test]
 fn a_kill_of_a_group_ends_its_sleepers(rt: HostRuntime) -> Result<(), Fail> {
-    let mut sh = Shell::new(&rt);
-    let left = cmd!(in sh.alloc; "setsid", "sh", "-c", "sleep 1000 & sleep 1000")?;
-    let handle = sh.start(&left.stdout_capture()?.unchecked()?)?;
-    let slept = run!(sh; "sleep", "0.5"); // until `setsid` has made the group
-    let killed = kill_groups(&mut sh, &handle);
-    let output = sh.wait(handle); // it comes once no process holds stdout
-    slept?;
-    killed?;
-    assert_eq!(rt; output?.status, ExitStatus::Signal(9));
+    assert_eq!(rt; killed_group(&mut Shell::new(&rt))?, ExitStatus::Signal(9));
     Ok(())
+}
+
+/// Returns what two readers find of what a command prints in pieces.
+fn told<S: System, R: Wait>(sh: &mut Shell<S, R>) -> Result<String, Failure> {
+    let script = "printf 'one\nth'; sleep 0.02; printf 'ree\ntwo'";
+    let pieces = sh.cmd("sh", &["-c", script])?;
+    let longest = longest_line(&sh.rt, sh.alloc, &mut sh.system, &pieces)?;
+    let mut log: &mut [u8] = &mut [0; 7];
+    let (bytes, whole) = copied(&sh.rt, sh.alloc, &mut sh.system, &pieces, &mut log)?;
+    Ok(format!(in sh.alloc; "{longest} {} {whole}", bytes.len())?)
 }
 
 #[test]
 fn readers_read_while_commands_run(rt: HostRuntime) -> Result<(), Fail> {
-    let mut sh = Shell::new(&rt);
-    let pieces = sh.cmd(
-        "sh",
-        &["-c", "printf 'one\nth'; sleep 0.02; printf 'ree\ntwo'"],
-    )?;
-    let longest = longest_line(&rt, sh.alloc, &mut sh.system, &pieces)?;
-    let mut log: &mut [u8] = &mut [0; 7];
-    let (bytes, whole) = copied(&rt, sh.alloc, &mut sh.system, &pieces, &mut log)?;
-    let told = format!(in sh.alloc; "{longest} {} {whole}", bytes.len())?;
-    assert_eq!(rt; told.as_str(), "5 13 false");
+    assert_eq!(rt; told(&mut Shell::new(&rt))?.as_str(), "5 13 false");
     Ok(())
 }

@@ -99,9 +99,8 @@ fn a_script_stops_at_a_failure(rt: HostRuntime) -> Result<(), Fail> {
 /// A child that failed.
 const FAILS: PollAnswer = PollAnswer::Ended(ExitStatus::Code(1));
 
-#[test]
-fn a_build_tells_what_failed(rt: HostRuntime) -> Result<(), Fail> {
-    let (alloc, mut system) = (rt.alloc(), Script::new(rt.alloc())?);
+/// Runs a build whose first step fails. Returns whether each step succeeded, and how many are done.
+fn build_told(rt: &impl Wait, alloc: Global, system: &mut Script) -> Result<String, Error> {
     system.polls(&[FAILS])?;
     system.polls(&[PollAnswer::Ended(ExitStatus::Code(0))])?;
     let done = AtomicUsize::new(0);
@@ -109,31 +108,36 @@ fn a_build_tells_what_failed(rt: HostRuntime) -> Result<(), Fail> {
         cmd!(in alloc; "make", "docs")?,
         cmd!(in alloc; "make", "all")?,
     ];
-    let ends = make_all(&rt, alloc, &mut system, &steps, &done)?;
-    for (end, succeeds) in ends.as_slice().iter().zip([false, true]) {
-        assert_eq!(rt; end.is_ok(), succeeds);
+    let mut text = String::new(alloc);
+    for end in make_all(rt, alloc, system, &steps, &done)?.iter() {
+        write!(text, "{} ", end.is_ok())?;
     }
-    assert_eq!(rt; done.load(Ordering::SeqCst), 2);
-    Ok(())
+    write!(text, "{}", done.load(Ordering::SeqCst))?;
+    Ok(text)
 }
 
 #[test]
-fn a_service_is_given_up(rt: HostRuntime) -> Result<(), Fail> {
-    let (alloc, mut system) = (rt.alloc(), Script::new(rt.alloc())?);
+fn a_build_tells_what_failed(rt: HostRuntime) -> Result<(), Fail> {
+    let told = build_told(&rt, rt.alloc(), &mut Script::new(rt.alloc())?)?;
+    assert_eq!(rt; told.as_str(), "false true 2");
+    Ok(())
+}
+
+/// Keeps a service that fails each time. Returns how often it was started, and why no more.
+fn service_told(rt: &impl Wait, alloc: Global, system: &mut Script) -> Result<String, Error> {
     for _ in 0..5 {
         system.polls(&[FAILS])?;
     }
     let clock = ScriptClock::new(Vec::from_slice(alloc, &[Duration::ZERO, Duration::MAX])?);
-    let (mut pool, service) = (Pool::new(alloc), cmd!(in alloc; "server")?);
-    let kept = serve(
-        &rt,
-        &clock,
-        &mut system,
-        &mut pool,
-        &service,
-        &AtomicBool::new(false),
-    );
-    let told = format!(in alloc; "{} {:?}, {} given", kept.starts, kept.why, pool.given())?;
+    let (mut pool, stops) = (Pool::new(alloc), AtomicBool::new(false));
+    let service = cmd!(in alloc; "server")?;
+    let kept = serve(rt, &clock, system, &mut pool, &service, &stops);
+    Ok(format!(in alloc; "{} {:?}, {} given", kept.starts, kept.why, pool.given())?)
+}
+
+#[test]
+fn a_service_is_given_up(rt: HostRuntime) -> Result<(), Fail> {
+    let told = service_told(&rt, rt.alloc(), &mut Script::new(rt.alloc())?)?;
     assert_eq!(rt; told.as_str(), "5 GaveUp, 5 given");
     Ok(())
 }
