@@ -71,19 +71,16 @@ fn read_kept<S: System + Drop>(
     read_under(policy, rt, alloc, system, &mut Pool::new(alloc), step).returned
 }
 
-/// Returns what comes of a step that is allowed, and of one that isn't.
-fn told<S: System + Drop>(rt: &impl Wait, alloc: Global, systems: (S, S)) -> Result<String, Error> {
-    let allowed = cmd!(in alloc; "/bin/echo", "compiled")?;
-    let (_system, printed) = read_step(rt, alloc, systems.0, &allowed);
-    let (_system, refused) = read_step(rt, alloc, systems.1, &cmd!(in alloc; "touch", "made")?);
-    Ok(format!(in alloc; "{printed:?}, {refused:?}")?)
-}
-
 #[test]
 fn a_step_starts_its_tools_alone(rt: HostRuntime) -> Result<(), Fail> {
     let alloc = rt.alloc();
-    let told = told(&rt, alloc, (Host::new(&rt, alloc), Host::new(&rt, alloc)))?;
-    let wanted = "Ok(\"compiled\"), Err(System(Fault { kind: PermissionDenied }))";
+    let allowed: Expression<duct_host::End> = cmd!(in alloc; "/bin/echo", "compiled")?;
+    let printed = read_step(&rt, alloc, Host::new(&rt, alloc), &allowed).1;
+    assert_eq!(rt; printed?.as_str(), "compiled");
+    let other: Expression<duct_host::End> = cmd!(in alloc; "touch", "made")?;
+    let refused = read_step(&rt, alloc, Host::new(&rt, alloc), &other).1;
+    let told = format!(in alloc; "{refused:?}")?;
+    let wanted = "Err(System(Fault { kind: PermissionDenied }))";
     assert_eq!(rt; told.as_str(), wanted);
     Ok(())
 }
