@@ -1,7 +1,7 @@
 use Rattle.std.proofs.lemmas.Result.{IfOk-weaker}
 use Rattle.duct.specs.TreeView.{tree_view}
 use Rattle.examples.proofs.WholeStart.{whole_to}
-use Rattle.examples.proofs.examples.files.start_to.Goals as goal
+use Rattle.examples.proofs.examples.calling.start_to.Goals as goal
 
 pub returns : goal.returns
 returns g c =
