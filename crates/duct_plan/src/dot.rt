@@ -2,8 +2,7 @@
 use crate::items::{Item, Plan, Target};
 use crate::requests::program_of;
 use duct::Stream;
-use std::fmt;
-use std::fmt::{Formatter, Write};
+use std::fmt::{self, Formatter, Write};
 
 /// A plan as a directed graph in the DOT language, as `dot -Tsvg` reads it.
 ///
@@ -35,8 +34,7 @@ impl<E, H> fmt::Display for PlanDot<'_, '_, E, H> {
                     for argument in words.get(1..).unwrap_or(&[]) {
                         write!(f, " + \" \" + {argument:?}")?;
                     }
-                    f.write_str(", shape=box];\n")?;
-                    write!(f, "  {} -> n{place};\n", Joined(found.input))?;
+                    write!(f, ", shape=box];\n  {} -> n{place};\n", Joined(found.input))?;
                     write!(f, "  n{place} -> {};\n", Joined(found.output))?;
                     write!(f, "  n{place} -> {} [label=stderr];\n", Joined(found.error))?
                 }

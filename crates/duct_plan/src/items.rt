@@ -5,9 +5,7 @@ ghost use Rattle.duct_system.specs.declared.spec.Stream.TheVariants.{In};
 ghost use Rattle.duct_run.proofs.PlanInward.{surroundings_within};
 ghost use Rattle.duct_start.specs.Lookup.{resolved_turn};
 ghost use Rattle.duct_start.specs.Step as node;
-ghost use Rattle.duct_start.specs.Step.{step_of_row};
 ghost use Rattle.duct_start.specs.Surroundings as outwards;
-ghost use Rattle.duct_start.specs.Surroundings.{root_surroundings};
 ghost use Rattle.duct_tree.specs.EffectView.{effect_view, input_route_view, opening_view, output_route_view};
 ghost use Rattle.duct_plan.specs.PlanView.{found_of, target_of};
 
@@ -102,7 +100,7 @@ pub struct Plan<'t, E, H> {
 impl<'t, E, H> Surroundings<'t, E, H> {
     /// Returns what a command finds that no node is around.
     pub(crate) fn at_root(alloc: Global) -> Surroundings<'t, E, H>
-        ensures { found_of result ≡ root_surroundings }
+        ensures { found_of result ≡ outwards.root_surroundings }
     {
         Surroundings {
             folder: None,
@@ -132,7 +130,7 @@ impl<'t, E, H> Surroundings<'t, E, H> {
     /// allocation failure.
     pub(crate) fn enter(&mut self, effect: Effect<'t, E, H>, place: usize) -> Result<(), AllocError>
         ensures { OnOk result (found_of self.new ≡ surroundings_within
-            (step_of_row (effect_view effect.entry)) place (found_of self.old)) }
+            (node.step_of_row (effect_view effect.entry)) place (found_of self.old)) }
     {
         let input = self.input(effect.input, effect.opening, place);
         let output = self.output(effect.output, effect.opening, place);

@@ -10,6 +10,6 @@ mod text;
 
 pub use dot::PlanDot;
 pub use items::{Item, Plan, Surroundings, Target, VariableChange};
-pub use program::{NoEnd, drawing, perform, preview};
+pub use program::{NoEnd, drawing, preview, print};
 pub use requests::{plan, plan_of_reader};
 pub use text::PlanText;

@@ -9,7 +9,7 @@ use crate::dot::PlanDot;
 use crate::requests::plan_of_reader;
 use crate::text::PlanText;
 use duct::Expression;
-use duct_program::{Failure, NoHook, Program, Usage, line};
+use duct_program::{NoHook, Program, Usage, line};
 use std::alloc::Global;
 use std::io::Write;
 
@@ -54,7 +54,7 @@ pub fn drawing(alloc: Global, args: &[String]) -> Result<String, Usage>
 /// to `err` with `plan: ` before it and a newline after it, and the status is 2; at an allocation
 /// failure that is said so, and the status is 1. The status is also 1 where the write fails; a part
 /// of the text may then be written. It blocks as the writers do.
-pub fn perform<O: Write, E: Write>(alloc: Global, args: &[String], out: &mut O, err: &mut E) -> u8
+pub fn print<O: Write, E: Write>(alloc: Global, args: &[String], out: &mut O, err: &mut E) -> u8
     ensures text { result ≡ 0 → (text : List ℕ)
         × IsPrinted (asked_of (map string_bytes args.now)) text
         × Appends (O.contents out.old) (O.contents out.new) text × (err.new ≡ err.old) }
@@ -70,18 +70,7 @@ pub fn perform<O: Write, E: Write>(alloc: Global, args: &[String], out: &mut O, 
     };
     match printed {
         Ok(text) => PROGRAM.tell(out, 0, text.as_str()),
-        Err(usage) => PROGRAM.tell(err, Failure::Usage(usage).status(), usage_line(usage)),
-    }
-}
-
-// Returns the line of a usage error.
-fn usage_line(usage: Usage) -> &'static str
-    ensures { result.now ≡ usage_line usage }
-{
-    match usage {
-        Usage::EmptyCommand => "plan: empty command\n",
-        Usage::MissingText => "plan: missing text\n",
-        Usage::MissingPath => "plan: missing path\n",
-        Usage::Memory => PROGRAM.no_memory,
+        Err(Usage::Memory) => PROGRAM.tell(err, 1, PROGRAM.no_memory),
+        Err(usage) => PROGRAM.tell_made(err, 2, format!(in alloc; "plan: {usage}\n")),
     }
 }

@@ -4,16 +4,15 @@ ghost use Rattle.std.specs.Fmt.{DisplaysOnOk};
 ghost use Rattle.std.specs.Option.{option_copied};
 ghost use Rattle.duct_system.specs.SpecView.{var_view};
 ghost use Rattle.duct_tree.specs.Text.{printed};
-ghost use Rattle.duct_plan.specs.PlanView.{change_of, found_of, item_of, target_of};
-ghost use Rattle.duct_plan.specs.PlanForm.{change_form, command_form, each_form, folder_form, hooks_form, item_form, line_form, of_text, of_variable, parents_text, program_form, spawn_form, stream_form};
+ghost use Rattle.duct_plan.specs.PlanView.{change_of, found_of, item_of, plan_view, target_of};
+ghost use Rattle.duct_plan.specs.PlanForm.{change_form, command_form, each_form, folder_form, hooks_form, item_form, line_form, of_text, of_variable, parents_text, plan_text, program_form, spawn_form, stream_form};
 
 use crate::items::{Item, Plan, Surroundings, Target, VariableChange};
 use crate::requests::{is_canonical, program_of};
 use duct::Stream;
 use duct_base::names::EnvNameString;
 use std::collections::btree_map::Iter;
-use std::fmt;
-use std::fmt::{Formatter, Write};
+use std::fmt::{self, Formatter, Write};
 
 /// A plan as text: a line for each request, with its place, as in `3 open of "f"` or
 /// `4 spawn of "sort" "-u", stdin file 3, stdout pipe 1, stderr inherited`. A pipe, a file or a
@@ -24,9 +23,6 @@ use std::fmt::{Formatter, Write};
 pub struct PlanText<'a, 't, E, H>(pub &'a Plan<'t, E, H>);
 
 impl<E, H> fmt::Display for PlanText<'_, '_, E, H> {
-    ghost use Rattle.duct_plan.specs.PlanView.{plan_view};
-    ghost use Rattle.duct_plan.specs.PlanForm.{plan_text};
-
     ghost output = { λ text. plan_text (plan_view text.0.now) };
 
     fn fmt<W: Write>(&self, f: &mut Formatter<W>) -> fmt::Result {
@@ -136,13 +132,11 @@ fn write_changes<W: Write>(changes: &[VariableChange<'_>], f: &mut Formatter<W>)
     ensures { DisplaysOnOk W.write_str_gives f.old result
         (printed (each_form change_form (map change_of changes.now))) f.new }
 {
-    match changes.split_first() {
-        None => Ok(()),
-        Some((change, further)) => {
-            write_change(*change, f)?;
-            write_changes(further, f)
-        }
-    }
+    let Some((change, further)) = changes.split_first() else {
+        return Ok(());
+    };
+    write_change(*change, f)?;
+    write_changes(further, f)
 }
 
 // Writes a change of the variables.
@@ -168,13 +162,11 @@ fn write_variables<W: Write>(
     ensures { DisplaysOnOk W.write_str_gives f.old result
         (printed (each_form (of_variable (codes " ")) (map var_view rest.entry))) f.new }
 {
-    match rest.next() {
-        None => Ok(()),
-        Some((name, value)) => {
-            write!(f, " {name:?}={value:?}")?;
-            write_variables(rest, f)
-        }
-    }
+    let Some((name, value)) = rest.next() else {
+        return Ok(());
+    };
+    write!(f, " {name:?}={value:?}")?;
+    write_variables(rest, f)
 }
 
 // Writes a stream, by its name, and where it goes.

@@ -7,7 +7,7 @@ mod commands;
 
 use crate::commands::{JUDGE, REPLAY, judge_line, recorded, recording_of, replay};
 use duct_host::Host;
-use duct_plan::perform;
+use duct_plan::print;
 use duct_program::{Program, arguments};
 use duct_replay::Recorder;
 use std::io;
@@ -34,7 +34,7 @@ fn main(rt: HostRuntime) -> ExitCode {
         return ExitCode::from(PROGRAM.tell(&mut err, 2, USAGE));
     };
     ExitCode::from(match command.as_str() {
-        "plan" => perform(alloc, words, &mut out, &mut err),
+        "plan" => print(alloc, words, &mut out, &mut err),
         "record" => {
             // Before the file, which would else take the place of a closed standard stream.
             let mut recorder = Recorder::new(alloc, Host::new(&rt, alloc));

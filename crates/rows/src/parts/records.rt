@@ -1,7 +1,7 @@
 //! The texts of recorded journals, verdicts and plans.
 use crate::parts::Parts;
 use duct::{Entry, Error, System};
-use duct_plan::{PlanDot, PlanText, perform, plan};
+use duct_plan::{PlanDot, PlanText, plan, print};
 use duct_program::{Usage, line};
 use duct_replay::{
     LineRefusal, Refusal, ReplayEnd, Variables, Verdict, journal_text, judge, read_journal,
@@ -69,7 +69,7 @@ fn push_refused(text: &mut String, refused: &LineRefusal) -> Result<(), TableErr
 /// Adds what a start will request: as a text, as a drawing, or by the program `plan`.
 pub fn push_planned(text: &mut String, row: &Parts, key: &str) -> Result<(), TableError> {
     if key == "planned" {
-        return push_performed(text, row);
+        return push_printed(text, row);
     }
     let tree = written(row.alloc, row.text("expression"))?;
     let plan = plan(row.alloc, &tree)?;
@@ -82,11 +82,11 @@ pub fn push_planned(text: &mut String, row: &Parts, key: &str) -> Result<(), Tab
 /// The greatest number of bytes that the program `plan` writes in a row.
 const ROOM: usize = 4096;
 
-fn push_performed(text: &mut String, row: &Parts) -> Result<(), TableError> {
+fn push_printed(text: &mut String, row: &Parts) -> Result<(), TableError> {
     let args = arguments(row.alloc, row.text("arguments"))?;
     let mut out = Vec::with_capacity(row.alloc, ROOM)?;
     let mut err = Vec::with_capacity(row.alloc, ROOM)?;
-    let status = perform(row.alloc, args.as_slice(), &mut out, &mut err);
+    let status = print(row.alloc, args.as_slice(), &mut out, &mut err);
     let out = str::from_utf8(out.as_slice()).unwrap_or("?");
     let err = str::from_utf8(err.as_slice()).unwrap_or("?");
     if err.contains("out of memory") {
