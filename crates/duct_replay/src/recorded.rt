@@ -9,8 +9,7 @@ ghost use Rattle.std.specs.Option.{ForSome};
 use crate::recording::listed;
 use duct_system::system::{Child, ExitStatus, Fault, Job, Numbered, Said, System};
 use std::alloc::{AllocError, Global};
-use std::io;
-use std::io::{ErrorKind, Read};
+use std::io::{self, ErrorKind, Read};
 use std::marker::PhantomData;
 use std::sync::{Arc, OnceLock};
 

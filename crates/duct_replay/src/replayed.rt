@@ -1,17 +1,17 @@
 //! The children, workers and readers of a replay.
-ghost use Rattle.std.specs.Prelude.{◌≡◌, Some, ◌≤◌, ◌++◌, min, take, drop, length, option_map};
+ghost use Rattle.std.specs.Prelude.{◌≡◌, refl, Some, ◌≤◌, ◌++◌, min, take, drop, length, option_map};
 ghost use Rattle.std.specs.Io.{ReadsAtMost};
 ghost use Rattle.std.specs.Io.KnownBytes.{ReadConsumes};
 ghost use Rattle.std.specs.Option.{ForSome};
 ghost use Rattle.duct_system.specs.Child.{IsUnasked, OrdersChild, PollsChild};
 ghost use Rattle.duct_replay.specs.RecordingView.{HasRead, IsEnded, IsObeyed, MayRead, SameBytes, SaysBytes, bytes_of, had, told_of};
 ghost use Rattle.duct_system.specs.Job.{PollsJob, unpolled_job};
+ghost use Rattle.duct_system.specs.declared.system.Said.TheVariants as said;
 
 use crate::found::{no_memory, unrecorded};
 use duct_system::system::{Child, ExitStatus, Fault, Job, Numbered, Order, Said};
 use std::alloc::Global;
-use std::io;
-use std::io::{ErrorKind, Read};
+use std::io::{self, ErrorKind, Read};
 use std::snapshot::Snapshot;
 use std::sync::Arc;
 
@@ -73,8 +73,6 @@ impl Numbered for ReplayChild {
 }
 
 impl Child for ReplayChild {
-    ghost use Rattle.std.specs.Prelude.{refl};
-    ghost use Rattle.duct_replay.specs.RecordingView.{IsEnded, IsObeyed};
     ghost use Rattle.duct_replay.specs.Replays.{child_view};
 
     ghost may_answer = { IsEnded };
@@ -145,8 +143,6 @@ impl Numbered for ReplayFeed {
 }
 
 impl Job for ReplayFeed {
-    ghost use Rattle.std.specs.Prelude.{◌≡◌, refl};
-    ghost use Rattle.duct_system.specs.declared.system.Said.TheVariants as said;
     ghost use Rattle.duct_replay.specs.Replays.{feed_view};
 
     type Result = ();
@@ -208,8 +204,6 @@ impl Numbered for ReplayDrain {
 }
 
 impl Job for ReplayDrain {
-    ghost use Rattle.std.specs.Prelude.{refl};
-    ghost use Rattle.duct_replay.specs.RecordingView.{MayRead, SameBytes};
     ghost use Rattle.duct_replay.specs.Replays.{drain_view};
 
     type Result = Arc<Vec<u8>>;
