@@ -11,8 +11,8 @@ use Rattle.serde_json.specs.Written.{compact_text}
 use Rattle.duct_system.specs.EntryView.{EntryView}
 use Rattle.duct_system.specs.declared.system.ExitStatus.{ExitStatus}
 use Rattle.duct_replay.specs.Lines.{IsWritable, ItemView, Noted, Ended, Read, item_data, item_text, AllRead, ReadsFirst, RecordedView, at_line, entries_read, entries_text, journal_meant, lines_meant, recorded_items, recorded_text, recording_meant, with_item, item_line}
-use Rattle.duct_replay.specs.declared.write.Variables.{Variables}
-use Rattle.duct_replay.specs.declared.write.Variables.TheVariants.{Shown}
+use Rattle.duct_replay.specs.declared.write.Values.{Values}
+use Rattle.duct_replay.specs.declared.write.Values.TheVariants.{Shown}
 use Rattle.duct_replay.proofs.Line.{meant_again}
 use Rattle.duct_replay.proofs.OneLine.{AreInside, IsInside, text_inside}
 use Rattle.duct_replay.proofs.Shallow.{item_plain}
@@ -66,14 +66,14 @@ reads_first line item inside is place rest =
     ∙ ap (λ read. at_line place read (lines_meant (place + 1) (lines rest))) is
 
 -- the line that was written for an item is read first
-pub item_reads : (variables : Variables) (item : ItemView) → IsWritable item → variables ≡ Shown
-    → read (compact_text (item_data variables item)) ≡ Some (item_data variables item)
-    → ReadsFirst (item_text variables item) item
+pub item_reads : (values : Values) (item : ItemView) → IsWritable item → values ≡ Shown
+    → read (compact_text (item_data values item)) ≡ Some (item_data values item)
+    → ReadsFirst (item_text values item) item
 unfolding item_text
-item_reads variables item writable shown is =
-    let text = compact_text (item_data variables item) in
-    reads_first text item (text_inside (item_data variables item) (item_plain variables item).exact)
-    (meant_again variables item text writable shown is)
+item_reads values item writable shown is =
+    let text = compact_text (item_data values item) in
+    reads_first text item (text_inside (item_data values item) (item_plain values item).exact)
+    (meant_again values item text writable shown is)
 
 abbrev in_front : List ItemView → RecordedView → RecordedView
 in_front [] recorded = recorded
@@ -83,13 +83,13 @@ abbrev recorded_of : List EntryView → List (ℕ × ExitStatus) → List (ℕ �
 recorded_of entries endings outputs =
     record { entries = entries; endings = endings; outputs = outputs }
 
-lines_back : (variables : Variables) (items : List ItemView) → AllRead variables items → (place : ℕ)
-    → lines_meant place (lines (flat_map (item_text variables) items))
+lines_back : (values : Values) (items : List ItemView) → AllRead values items → (place : ℕ)
+    → lines_meant place (lines (flat_map (item_text values) items))
     ≡ Ok (in_front items (recorded_of [] [] []))
-lines_back variables [] all place = refl
-lines_back variables (item ∷ items) all place =
-    all.0 place (flat_map (item_text variables) items)
-    ∙ ap (at_line place (Ok item)) (lines_back variables items all.1 (place + 1))
+lines_back values [] all place = refl
+lines_back values (item ∷ items) all place =
+    all.0 place (flat_map (item_text values) items)
+    ∙ ap (at_line place (Ok item)) (lines_back values items all.1 (place + 1))
 
 outputs_front : (outputs : List (ℕ × List ℕ))
     → in_front (map Read outputs) (recorded_of [] [] []) ≡ recorded_of [] [] outputs
@@ -112,51 +112,51 @@ entries_front (entry ∷ entries) endings outputs =
     ap (with_item (Noted entry)) (entries_front entries endings outputs)
 
 -- the text of a recording means it
-pub recording_back : (variables : Variables) (recorded : RecordedView) (text : List ℕ)
-    → AllRead variables (recorded_items recorded) → text ≡ recorded_text variables recorded
+pub recording_back : (values : Values) (recorded : RecordedView) (text : List ℕ)
+    → AllRead values (recorded_items recorded) → text ≡ recorded_text values recorded
     → recording_meant text ≡ Ok recorded
 unfolding recording_meant
-recording_back variables recorded text all is =
+recording_back values recorded text all is =
     ap (λ bytes. lines_meant 1 (lines bytes)) is
-    ∙ (lines_back variables (recorded_items recorded) all 1
+    ∙ (lines_back values (recorded_items recorded) all 1
     ∙ ap Ok (entries_front recorded.entries recorded.endings recorded.outputs))
 
 -- and that of a journal its entries
-pub journal_back : (variables : Variables) (entries : List EntryView) (text : List ℕ)
-    → AllRead variables (map Noted entries) → text ≡ entries_text variables entries
+pub journal_back : (values : Values) (entries : List EntryView) (text : List ℕ)
+    → AllRead values (map Noted entries) → text ≡ entries_text values entries
     → journal_meant text ≡ Ok entries
-journal_back variables entries text all is =
+journal_back values entries text all is =
     let alone = sym (append-nil (map Noted entries)) in
-    ap entries_read (recording_back variables (recorded_of entries [] []) text
-    (subst (AllRead variables) alone all) (is ∙ ap (flat_map (item_text variables)) alone))
+    ap entries_read (recording_back values (recorded_of entries [] []) text
+    (subst (AllRead values) alone all) (is ∙ ap (flat_map (item_text values)) alone))
 
 -- each of two lists' items
-all_joined : (variables : Variables) (items more : List ItemView) → AllRead variables items
-    → AllRead variables more → AllRead variables (items ++ more)
-all_joined variables [] more all also = also
-all_joined variables (item ∷ items) more all also = (all.0, all_joined variables items more all.1 also)
+all_joined : (values : Values) (items more : List ItemView) → AllRead values items
+    → AllRead values more → AllRead values (items ++ more)
+all_joined values [] more all also = also
+all_joined values (item ∷ items) more all also = (all.0, all_joined values items more all.1 also)
 
 pub map_map : {A B C : Type 0} (f : B → C) (g : A → B) (values : List A)
     → map (λ value. f (g value)) values ≡ map f (map g values)
 map_map f g [] = refl
 map_map f g (value ∷ values) = ap (λ more. f (g value) ∷ more) (map_map f g values)
 
-module _ (variables : Variables) (recorded : RecordedView) (entries endings outputs : List ItemView)
+module _ (values : Values) (recorded : RecordedView) (entries endings outputs : List ItemView)
     (entries_are : entries ≡ map Noted recorded.entries)
     (endings_are : endings ≡ map Ended recorded.endings)
     (outputs_are : outputs ≡ map Read recorded.outputs) where
   -- the lines of three lists, added to nothing
   pub all_written : (zero one two three : List ℕ) → zero ≡ []
-      → one ≡ zero ++ flat_map (item_text variables) entries
-      → two ≡ one ++ flat_map (item_text variables) endings
-      → three ≡ two ++ flat_map (item_text variables) outputs
-      → three ≡ recorded_text variables recorded
+      → one ≡ zero ++ flat_map (item_text values) entries
+      → two ≡ one ++ flat_map (item_text values) endings
+      → three ≡ two ++ flat_map (item_text values) outputs
+      → three ≡ recorded_text values recorded
   all_written zero one two three none first second third =
       rw (third, second, first, none, ← entries_are, ← endings_are, ← outputs_are)
       (simp (flat_map-append, append_assoc))
 
-  pub all_read : AllRead variables entries → AllRead variables endings → AllRead variables outputs
-      → AllRead variables (recorded_items recorded)
+  pub all_read : AllRead values entries → AllRead values endings → AllRead values outputs
+      → AllRead values (recorded_items recorded)
   all_read one two three =
       rw (← entries_are, ← endings_are, ← outputs_are)
-      (all_joined variables entries (endings ++ outputs) one (all_joined variables endings outputs two three))
+      (all_joined values entries (endings ++ outputs) one (all_joined values endings outputs two three))

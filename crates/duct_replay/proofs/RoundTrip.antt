@@ -19,7 +19,7 @@ use Rattle.duct_system.specs.declared.system.Stdio.TheVariants.{Inherit, Null, E
 use Rattle.duct_system.specs.Kinds.{kind_name}
 use Rattle.duct_replay.specs.Lines.{AreBytes, Ended, IsSmall, IsWritable, ItemView, Noted, Read, answer_data, bytes_data, entry_data, folder_data, item_data, list_data, number_answer_data, number_data, port_data, ports_data, request_data, result_data, side_name, status_data, stream_data, variable_data, variables_data, ◌>>=◌, all_meant, answer_meant, byte_meant, bytes_meant, each_of, ending_meant, ends_answer, ends_meant, fault_meant, feed_meant, first_meant, integer_meant, item_meant, item_named, kind_named, list_meant, named_meant, number_answer, number_meant, only_meant, output_meant, pair_meant, port_meant, returned_as, side_named, spawn_meant, spec_meant, status_named, stream_meant, text_answer, text_meant, text_or_null, three_meant, unit_answer, unit_meant, variable_meant, variables_answer, variables_meant, words_meant}
 use Rattle.duct_replay.specs.declared.error.Refusal.{Refusal}
-use Rattle.duct_replay.specs.declared.write.Variables.TheVariants.{Shown}
+use Rattle.duct_replay.specs.declared.write.Values.TheVariants.{Shown}
 use Rattle.duct_replay.proofs.Lists.{list_of_items}
 use Rattle.duct_replay.proofs.Ordered.{set_again}
 

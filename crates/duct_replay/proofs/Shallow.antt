@@ -14,8 +14,8 @@ use Rattle.duct_system.specs.declared.system.ExitStatus.TheVariants.{Code, Signa
 use Rattle.duct_system.specs.declared.system.Fault.{Fault}
 use Rattle.duct_system.specs.declared.system.Stdio.{Stdio}
 use Rattle.duct_system.specs.declared.system.Stdio.TheVariants.{Inherit, Null, End}
-use Rattle.duct_replay.specs.declared.write.Variables.{Variables}
-use Rattle.duct_replay.specs.declared.write.Variables.TheVariants.{Shown, Hidden}
+use Rattle.duct_replay.specs.declared.write.Values.{Values}
+use Rattle.duct_replay.specs.declared.write.Values.TheVariants.{Shown, Hidden}
 use Rattle.duct_replay.specs.Lines.{Ended, ItemView, Noted, Read, answer_data, bytes_data, entry_data, folder_data, item_data, list_data, number_answer_data, number_data, port_data, ports_data, request_data, result_data, side_name, status_data, stream_data, value_data, variable_data, variables_data}
 
 -- it nests no deeper than this, and has no float
@@ -52,7 +52,7 @@ text_plain n text = record { shallow = omega arith; exact = refl }
 number_plain : (n value : ℕ) → IsPlain n (number_data value)
 number_plain n value = record { shallow = omega arith; exact = refl }
 
-value_plain : (n : ℕ) (variables : Variables) (value : List ℕ) → IsPlain n (value_data variables value)
+value_plain : (n : ℕ) (values : Values) (value : List ℕ) → IsPlain n (value_data values value)
 value_plain n Shown value = text_plain n value
 value_plain n Hidden value = record { shallow = omega arith; exact = refl }
 
@@ -71,16 +71,16 @@ stream_plain n Inherit = text_plain n _
 stream_plain n Null = text_plain n _
 stream_plain n (End end) = number_plain n end
 
-variable_plain : (variables : Variables) (pair : List ℕ × List ℕ)
-    → IsPlain 1 (variable_data variables pair)
+variable_plain : (values : Values) (pair : List ℕ × List ℕ)
+    → IsPlain 1 (variable_data values pair)
 unfolding variable_data
-variable_plain variables pair =
-    list_plain 0 (string pair.0 ∷ value_data variables pair.1 ∷ []) (text_plain 0 pair.0, (value_plain 0 variables pair.1, tt))
+variable_plain values pair =
+    list_plain 0 (string pair.0 ∷ value_data values pair.1 ∷ []) (text_plain 0 pair.0, (value_plain 0 values pair.1, tt))
 
-variables_plain : (variables : Variables) (vars : Vars) → IsPlain 2 (variables_data variables vars)
+variables_plain : (values : Values) (vars : Vars) → IsPlain 2 (variables_data values vars)
 unfolding variables_data
-variables_plain variables vars =
-    list_plain 1 (map (variable_data variables) vars) (mapped 1 (variable_data variables) (variable_plain variables) vars)
+variables_plain values vars =
+    list_plain 1 (map (variable_data values) vars) (mapped 1 (variable_data values) (variable_plain values) vars)
 
 bytes_plain : (bytes : List ℕ) → IsPlain 2 (bytes_data bytes)
 unfolding bytes_data
@@ -111,43 +111,43 @@ answer_plain values plain (Err fault) = (text_plain 2 _, (text_plain 2 _, tt))
 number_answer_plain : (answer : Result ℕ Fault) → ArePlain 2 (number_answer_data answer)
 number_answer_plain = answer_plain _ (λ n. (number_plain 2 n, tt))
 
-request_plain : (variables : Variables) (entry : EntryView)
-    → ArePlain 2 (request_data variables entry)
+request_plain : (values : Values) (entry : EntryView)
+    → ArePlain 2 (request_data values entry)
 unfolding request_data
-request_plain variables (Environment answer) = (text_plain 2 _, tt)
-request_plain variables (Pipe answer) = (text_plain 2 _, tt)
-request_plain variables (OpenRead path answer) = (text_plain 2 _, (text_plain 2 path, tt))
-request_plain variables (Create path answer) = (text_plain 2 _, (text_plain 2 path, tt))
-request_plain variables (Duplicate end answer) = (text_plain 2 _, (number_plain 2 end, tt))
-request_plain variables (Parent side answer) =
+request_plain values (Environment answer) = (text_plain 2 _, tt)
+request_plain values (Pipe answer) = (text_plain 2 _, tt)
+request_plain values (OpenRead path answer) = (text_plain 2 _, (text_plain 2 path, tt))
+request_plain values (Create path answer) = (text_plain 2 _, (text_plain 2 path, tt))
+request_plain values (Duplicate end answer) = (text_plain 2 _, (number_plain 2 end, tt))
+request_plain values (Parent side answer) =
     (text_plain 2 _, (text_plain 2 (side_name side), tt))
-request_plain variables (Canonicalize path answer) = (text_plain 2 _, (text_plain 2 path, tt))
-request_plain variables (Spawn spec streams answer) =
-    (text_plain 2 _, (words_plain spec.words, (folder_plain 2 spec.folder, (variables_plain variables spec.vars, (ports_plain spec, (streams_plain streams, tt))))))
-request_plain variables (Feed end bytes answer) =
+request_plain values (Canonicalize path answer) = (text_plain 2 _, (text_plain 2 path, tt))
+request_plain values (Spawn spec streams answer) =
+    (text_plain 2 _, (words_plain spec.words, (folder_plain 2 spec.folder, (variables_plain values spec.vars, (ports_plain spec, (streams_plain streams, tt))))))
+request_plain values (Feed end bytes answer) =
     (text_plain 2 _, (number_plain 2 end, (bytes_plain bytes, tt)))
-request_plain variables (Drain end answer) = (text_plain 2 _, (number_plain 2 end, tt))
-request_plain variables (Reader end) = (text_plain 2 _, (number_plain 2 end, tt))
-request_plain variables (Close end) = (text_plain 2 _, (number_plain 2 end, tt))
+request_plain values (Drain end answer) = (text_plain 2 _, (number_plain 2 end, tt))
+request_plain values (Reader end) = (text_plain 2 _, (number_plain 2 end, tt))
+request_plain values (Close end) = (text_plain 2 _, (number_plain 2 end, tt))
 
-returned_plain : (variables : Variables) (entry : EntryView)
-    → ArePlain 2 (answer_data variables entry)
+returned_plain : (values : Values) (entry : EntryView)
+    → ArePlain 2 (answer_data values entry)
 unfolding answer_data
-returned_plain variables (Environment answer) =
-    answer_plain _ (λ vars. (variables_plain variables vars, tt)) answer
-returned_plain variables (Pipe answer) =
+returned_plain values (Environment answer) =
+    answer_plain _ (λ vars. (variables_plain values vars, tt)) answer
+returned_plain values (Pipe answer) =
     answer_plain _ (λ ends. (number_plain 2 ends.0, (number_plain 2 ends.1, tt))) answer
-returned_plain variables (OpenRead path answer) = number_answer_plain answer
-returned_plain variables (Create path answer) = number_answer_plain answer
-returned_plain variables (Duplicate end answer) = number_answer_plain answer
-returned_plain variables (Parent side answer) = number_answer_plain answer
-returned_plain variables (Canonicalize path answer) =
+returned_plain values (OpenRead path answer) = number_answer_plain answer
+returned_plain values (Create path answer) = number_answer_plain answer
+returned_plain values (Duplicate end answer) = number_answer_plain answer
+returned_plain values (Parent side answer) = number_answer_plain answer
+returned_plain values (Canonicalize path answer) =
     answer_plain _ (λ text. (text_plain 2 text, tt)) answer
-returned_plain variables (Spawn spec streams answer) = number_answer_plain answer
-returned_plain variables (Feed end bytes answer) = answer_plain _ (λ unit. tt) answer
-returned_plain variables (Drain end answer) = answer_plain _ (λ unit. tt) answer
-returned_plain variables (Reader end) = tt
-returned_plain variables (Close end) = tt
+returned_plain values (Spawn spec streams answer) = number_answer_plain answer
+returned_plain values (Feed end bytes answer) = answer_plain _ (λ unit. tt) answer
+returned_plain values (Drain end answer) = answer_plain _ (λ unit. tt) answer
+returned_plain values (Reader end) = tt
+returned_plain values (Close end) = tt
 
 integer_plain : (n : ℕ) (code : ℤ) → IsPlain n (number (of_integer code))
 integer_plain n (pos code) = record { shallow = omega arith; exact = refl }
@@ -157,11 +157,11 @@ status_plain : (status : ExitStatus) → ArePlain 2 (status_data status)
 status_plain (Code code) = (text_plain 2 _, (integer_plain 2 code, tt))
 status_plain (Signal signal) = (text_plain 2 _, (integer_plain 2 signal, tt))
 
-pub item_plain : (variables : Variables) (item : ItemView) → IsPlain 3 (item_data variables item)
+pub item_plain : (values : Values) (item : ItemView) → IsPlain 3 (item_data values item)
 unfolding item_data entry_data
-item_plain variables (Noted entry) =
-    list_plain 2 (request_data variables entry ++ answer_data variables entry) (joined 2 (request_data variables entry) (answer_data variables entry) (request_plain variables entry) (returned_plain variables entry))
-item_plain variables (Ended (child, status)) =
+item_plain values (Noted entry) =
+    list_plain 2 (request_data values entry ++ answer_data values entry) (joined 2 (request_data values entry) (answer_data values entry) (request_plain values entry) (returned_plain values entry))
+item_plain values (Ended (child, status)) =
     list_plain 2 (string (codes "ended") ∷ number_data child ∷ status_data status) (text_plain 2 _, (number_plain 2 child, status_plain status))
-item_plain variables (Read (end, bytes)) =
+item_plain values (Read (end, bytes)) =
     list_plain 2 (string (codes "read") ∷ number_data end ∷ bytes_data bytes ∷ []) (text_plain 2 _, (number_plain 2 end, (bytes_plain bytes, tt)))

@@ -19,8 +19,8 @@ use Rattle.duct_system.specs.declared.system.Side.{Side}
 use Rattle.duct_system.specs.declared.system.Side.TheVariants as sides
 use Rattle.duct_system.specs.declared.system.Stdio.{Stdio}
 use Rattle.duct_system.specs.declared.system.Stdio.TheVariants.{Inherit, Null, End}
-use Rattle.duct_replay.specs.declared.write.Variables.{Variables}
-use Rattle.duct_replay.specs.declared.write.Variables.TheVariants as variables
+use Rattle.duct_replay.specs.declared.write.Values.{Values}
+use Rattle.duct_replay.specs.declared.write.Values.TheVariants as values
 use Rattle.serde_json.specs.Data.{Data, null, number, string, array, unsigned, Items, no_items, item as first_item}
 use Rattle.serde_json.specs.Find.{of_integer, as_str, as_number, as_i64, as_u64, as_array}
 use Rattle.serde_json.specs.View.{items_of}
@@ -62,16 +62,16 @@ stream_data Null = string (codes "null")
 stream_data (End end) = number_data end
 
 -- the value of a variable, or null where it is hidden
-abbrev pub value_data : Variables → List ℕ → Data
-value_data variables.Shown value = string value
-value_data variables.Hidden value = null
+abbrev pub value_data : Values → List ℕ → Data
+value_data values.Shown value = string value
+value_data values.Hidden value = null
 
 -- a variable: its name and its value
-unfoldable pub variable_data : Variables → List ℕ × List ℕ → Data
-variable_data variables pair = list_data (string pair.0 ∷ value_data variables pair.1 ∷ [])
+unfoldable pub variable_data : Values → List ℕ × List ℕ → Data
+variable_data values pair = list_data (string pair.0 ∷ value_data values pair.1 ∷ [])
 
-unfoldable pub variables_data : Variables → Vars → Data
-variables_data variables vars = list_data (map (variable_data variables) vars)
+unfoldable pub variables_data : Values → Vars → Data
+variables_data values vars = list_data (map (variable_data values) vars)
 
 -- a folder, or null where there is none
 abbrev pub folder_data : Option (List ℕ) → Data
@@ -87,29 +87,29 @@ abbrev pub ports_data : SpecView → Data
 ports_data spec = list_data (map port_data (spec.input ∷ spec.output ∷ spec.error ∷ []))
 
 -- the request of a child: its words, folder, variables and ports, and its streams
-abbrev pub spawn_data : Variables → SpecView → List (Stdio ℕ) → List Data
-spawn_data variables spec streams =
+abbrev pub spawn_data : Values → SpecView → List (Stdio ℕ) → List Data
+spawn_data values spec streams =
     string (codes "spawn") ∷ list_data (map string spec.words) ∷ folder_data spec.folder
-    ∷ variables_data variables spec.vars ∷ ports_data spec ∷ list_data (map stream_data streams)
+    ∷ variables_data values spec.vars ∷ ports_data spec ∷ list_data (map stream_data streams)
     ∷ []
 
 -- a request: its name, and what it was made with
-unfoldable pub request_data : Variables → EntryView → List Data
-request_data variables (Environment answer) = string (codes "environment") ∷ []
-request_data variables (Pipe answer) = string (codes "pipe") ∷ []
-request_data variables (OpenRead path answer) = string (codes "open_read") ∷ string path ∷ []
-request_data variables (Create path answer) = string (codes "create") ∷ string path ∷ []
-request_data variables (Duplicate end answer) = string (codes "duplicate") ∷ number_data end ∷ []
-request_data variables (Parent side answer) =
+unfoldable pub request_data : Values → EntryView → List Data
+request_data values (Environment answer) = string (codes "environment") ∷ []
+request_data values (Pipe answer) = string (codes "pipe") ∷ []
+request_data values (OpenRead path answer) = string (codes "open_read") ∷ string path ∷ []
+request_data values (Create path answer) = string (codes "create") ∷ string path ∷ []
+request_data values (Duplicate end answer) = string (codes "duplicate") ∷ number_data end ∷ []
+request_data values (Parent side answer) =
     string (codes "parent") ∷ string (side_name side) ∷ []
-request_data variables (Canonicalize path answer) =
+request_data values (Canonicalize path answer) =
     string (codes "canonicalize") ∷ string path ∷ []
-request_data variables (Spawn spec streams answer) = spawn_data variables spec streams
-request_data variables (Feed end bytes answer) =
+request_data values (Spawn spec streams answer) = spawn_data values spec streams
+request_data values (Feed end bytes answer) =
     string (codes "feed") ∷ number_data end ∷ bytes_data bytes ∷ []
-request_data variables (Drain end answer) = string (codes "drain") ∷ number_data end ∷ []
-request_data variables (Reader end) = string (codes "reader") ∷ number_data end ∷ []
-request_data variables (Close end) = string (codes "close") ∷ number_data end ∷ []
+request_data values (Drain end answer) = string (codes "drain") ∷ number_data end ∷ []
+request_data values (Reader end) = string (codes "reader") ∷ number_data end ∷ []
+request_data values (Close end) = string (codes "close") ∷ number_data end ∷ []
 
 -- the answer of a request that was refused
 abbrev pub refused_data : Fault → List Data
@@ -125,25 +125,25 @@ abbrev pub number_answer_data : Result ℕ Fault → List Data
 number_answer_data = result_data (λ n. number_data n ∷ [])
 
 -- the answer to a request
-unfoldable pub answer_data : Variables → EntryView → List Data
-answer_data variables (Environment answer) =
-    result_data (λ vars. variables_data variables vars ∷ []) answer
-answer_data variables (Pipe answer) =
+unfoldable pub answer_data : Values → EntryView → List Data
+answer_data values (Environment answer) =
+    result_data (λ vars. variables_data values vars ∷ []) answer
+answer_data values (Pipe answer) =
     result_data (λ ends. number_data ends.0 ∷ number_data ends.1 ∷ []) answer
-answer_data variables (OpenRead path answer) = number_answer_data answer
-answer_data variables (Create path answer) = number_answer_data answer
-answer_data variables (Duplicate end answer) = number_answer_data answer
-answer_data variables (Parent side answer) = number_answer_data answer
-answer_data variables (Canonicalize path answer) = result_data (λ text. string text ∷ []) answer
-answer_data variables (Spawn spec streams answer) = number_answer_data answer
-answer_data variables (Feed end bytes answer) = result_data (λ unit. []) answer
-answer_data variables (Drain end answer) = result_data (λ unit. []) answer
-answer_data variables (Reader end) = []
-answer_data variables (Close end) = []
+answer_data values (OpenRead path answer) = number_answer_data answer
+answer_data values (Create path answer) = number_answer_data answer
+answer_data values (Duplicate end answer) = number_answer_data answer
+answer_data values (Parent side answer) = number_answer_data answer
+answer_data values (Canonicalize path answer) = result_data (λ text. string text ∷ []) answer
+answer_data values (Spawn spec streams answer) = number_answer_data answer
+answer_data values (Feed end bytes answer) = result_data (λ unit. []) answer
+answer_data values (Drain end answer) = result_data (λ unit. []) answer
+answer_data values (Reader end) = []
+answer_data values (Close end) = []
 
 -- an entry
-unfoldable pub entry_data : Variables → EntryView → Data
-entry_data variables entry = list_data (request_data variables entry ++ answer_data variables entry)
+unfoldable pub entry_data : Values → EntryView → Data
+entry_data values entry = list_data (request_data values entry ++ answer_data values entry)
 
 -- ---- items
 
@@ -158,16 +158,16 @@ abbrev pub status_data : ExitStatus → List Data
 status_data (Code code) = string (codes "code") ∷ number (of_integer code) ∷ []
 status_data (Signal signal) = string (codes "signal") ∷ number (of_integer signal) ∷ []
 
-unfoldable pub item_data : Variables → ItemView → Data
-item_data variables (Noted entry) = entry_data variables entry
-item_data variables (Ended (child, status)) =
+unfoldable pub item_data : Values → ItemView → Data
+item_data values (Noted entry) = entry_data values entry
+item_data values (Ended (child, status)) =
     list_data (string (codes "ended") ∷ number_data child ∷ status_data status)
-item_data variables (Read (end, bytes)) =
+item_data values (Read (end, bytes)) =
     list_data (string (codes "read") ∷ number_data end ∷ bytes_data bytes ∷ [])
 
 -- the line of an item, with its newline
-unfoldable pub item_text : Variables → ItemView → List ℕ
-item_text variables item = compact_text (item_data variables item) ++ 10 ∷ []
+unfoldable pub item_text : Values → ItemView → List ℕ
+item_text values item = compact_text (item_data values item) ++ 10 ∷ []
 
 abbrev pub AreBytes : List ℕ → Type 0
 AreBytes bytes = (place : ℕ) → slice_index bytes place < 256
@@ -530,12 +530,12 @@ recorded_items recorded =
     map Noted recorded.entries ++ (map Ended recorded.endings ++ map Read recorded.outputs)
 
 -- the text of a recording: the line of each item
-abbrev pub recorded_text : Variables → RecordedView → List ℕ
-recorded_text variables recorded = flat_map (item_text variables) (recorded_items recorded)
+abbrev pub recorded_text : Values → RecordedView → List ℕ
+recorded_text values recorded = flat_map (item_text values) (recorded_items recorded)
 
 -- the text of a journal: the line of each entry
-abbrev pub entries_text : Variables → List EntryView → List ℕ
-entries_text variables entries = flat_map (item_text variables) (map Noted entries)
+abbrev pub entries_text : Values → List EntryView → List ℕ
+entries_text values entries = flat_map (item_text values) (map Noted entries)
 
 -- one more item in front
 abbrev pub with_item : ItemView → RecordedView → RecordedView
@@ -587,8 +587,8 @@ ReadsFirst line item =
     ≡ at_line place (Ok item) (lines_meant (place + 1) (lines rest))
 
 -- each of these items is read from its line
-abbrev pub AllRead : Variables → List ItemView → Type 0
-AllRead variables items = AllByRecursion (λ item. ReadsFirst (item_text variables item) item) items
+abbrev pub AllRead : Values → List ItemView → Type 0
+AllRead values items = AllByRecursion (λ item. ReadsFirst (item_text values item) item) items
 
 -- behind what was read comes the item that the line means
 abbrev pub AddsItem : List ℕ → RecordedView → RecordedView → Type 0

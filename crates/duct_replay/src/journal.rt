@@ -4,52 +4,48 @@ ghost use Rattle.std.specs.Str.Lines.{lines};
 ghost use Rattle.duct_system.specs.EntryView.{entry_view};
 ghost use Rattle.duct_replay.specs.Lines.{AddsItem, JournalParses, entries_text, journal_meant, lines_meant, recorded_text, recorded_view, recording_meant, item_line};
 ghost use Rattle.duct_replay.specs.declared.error.Refusal.{Refusal};
-ghost use Rattle.duct_replay.specs.declared.write.Variables.{Variables};
+ghost use Rattle.duct_replay.specs.declared.write.Values.{Values};
 
 use crate::error::{LineRefusal, Refusal};
 use crate::read::{Item, read_item};
 use crate::recording::Recording;
-use crate::write::{Variables, push_lines};
+use crate::write::{Values, push_lines};
 use duct_system::copy::copies_of_texts;
 use duct_system::system::Entry;
 use std::alloc::{AllocError, Global};
 
 /// Returns the text of a journal: the line of each entry, with a newline at its end. With
-/// `Variables::Shown`, `read_journal` reads it back as these entries. Fails only at an allocation
+/// `Values::Shown`, `read_journal` reads it back as these entries. Fails only at an allocation
 /// failure.
-pub fn journal_text(
-    alloc: Global,
-    entries: &[Entry],
-    variables: Variables,
-) -> Result<String, AllocError>
+pub fn journal_text(alloc: Global, entries: &[Entry], values: Values) -> Result<String, AllocError>
     ensures text { IfOk result
-        (λ text. string_bytes text ≡ entries_text variables (map entry_view entries.now)) }
-    ensures shown { variables ≡ Variables.Shown → IfOk result
+        (λ text. string_bytes text ≡ entries_text values (map entry_view entries.now)) }
+    ensures shown { values ≡ Values.Shown → IfOk result
         (λ text. journal_meant (string_bytes text) ≡ Ok (map entry_view entries.now)) }
 {
     let mut text = String::new(alloc);
-    push_lines(alloc, &mut text, entries, variables)?;
+    push_lines(alloc, &mut text, entries, values)?;
     Ok(text)
 }
 
 /// Returns the text of a recording: that of its journal, and then a line for each child that ended,
 /// as in `["ended",5,"code",0]`, and for each end that was read, as in `["read",2,"text"]`. With
-/// `Variables::Shown`, `read_recording` reads it back as this recording. Fails only at an allocation
+/// `Values::Shown`, `read_recording` reads it back as this recording. Fails only at an allocation
 /// failure.
 pub fn recording_text(
     alloc: Global,
     recording: &Recording,
-    variables: Variables,
+    values: Values,
 ) -> Result<String, AllocError>
     ensures text { IfOk result (λ text. string_bytes text
-        ≡ recorded_text variables (recorded_view recording.now)) }
-    ensures shown { variables ≡ Variables.Shown → IfOk result
+        ≡ recorded_text values (recorded_view recording.now)) }
+    ensures shown { values ≡ Values.Shown → IfOk result
         (λ text. recording_meant (string_bytes text) ≡ Ok (recorded_view recording.now)) }
 {
     let mut text = String::new(alloc);
-    push_lines(alloc, &mut text, recording.entries(), variables)?;
-    push_lines(alloc, &mut text, recording.endings(), variables)?;
-    push_lines(alloc, &mut text, recording.outputs(), variables)?;
+    push_lines(alloc, &mut text, recording.entries(), values)?;
+    push_lines(alloc, &mut text, recording.endings(), values)?;
+    push_lines(alloc, &mut text, recording.outputs(), values)?;
     Ok(text)
 }
 

@@ -8,7 +8,7 @@ ghost use Rattle.duct_replay.specs.Judged.{HadMemory, IsLostSpawn, IsRight, Judg
 
 use crate::recording::Recording;
 use crate::replay::{Replay, ReplayEnd};
-use crate::write::{Variables, entry_text};
+use crate::write::{Values, entry_text};
 use duct::{Entry, Error, Expression, Hook, Kind, Numbered, Pool, System};
 use duct_system::copy::copies_of_entries;
 use duct_system::same::{same_spec, same_streams};
@@ -118,8 +118,8 @@ fn first_difference(alloc: Global, recorded: &[Entry], made: &[Entry]) -> Result
 fn is_same(alloc: Global, one: &Entry, other: &Entry) -> Result<bool, AllocError>
     ensures { IfOk result (λ same. IsTrue same ↔ (entry_view one.now ≡ entry_view other.now)) }
 {
-    let text = entry_text(alloc, one, Variables::Shown)?;
-    Ok(text == entry_text(alloc, other, Variables::Shown)?)
+    let text = entry_text(alloc, one, Values::Shown)?;
+    Ok(text == entry_text(alloc, other, Values::Shown)?)
 }
 
 fn entry_at(entries: &[Entry], place: usize) -> Option<&Entry>

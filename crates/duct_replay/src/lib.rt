@@ -26,4 +26,4 @@ pub use recorder::{Recorder, Records};
 pub use recording::Recording;
 pub use replay::{Replay, ReplayEnd};
 pub use replayed::{ReplayChild, ReplayDrain, ReplayFeed, ReplayReader};
-pub use write::{Variables, entry_text};
+pub use write::{Values, entry_text};

@@ -17,7 +17,7 @@ use std::alloc::{AllocError, Global};
 use std::collections::BTreeMap;
 use std::sync::Arc;
 
-/// Returns the entry of a line that `entry_text` wrote with `Variables::Shown`, and of each other
+/// Returns the entry of a line that `entry_text` wrote with `Values::Shown`, and of each other
 /// text with the same meaning: JSON may have spaces and escapes of its own, and the variables of a
 /// spec are set one by one, so that they end in order of name. The line has no newline at its end.
 ///

@@ -3,7 +3,7 @@ ghost use Rattle.std.specs.Prelude.{◌≡◌, ◌++◌, ◌∷◌, [], Some, Ok
 ghost use Rattle.duct_system.specs.EntryView.{entry_view};
 ghost use Rattle.duct_system.specs.SpecView.{AreOrdered, pair_text};
 ghost use Rattle.duct_replay.specs.Lines.{AreBytes, Ended, IsWritable, ItemView, Noted, Read, answer_data, bytes_data, entry_data, folder_data, item_data, item_text, list_data, number_data, port_data, ports_data, request_data, side_name, spawn_data, stream_data, variable_data, variables_data, AllRead, ReadsFirst, output_view, line_meant};
-ghost use Rattle.duct_replay.specs.declared.write.Variables.{Variables};
+ghost use Rattle.duct_replay.specs.declared.write.Values.{Values};
 ghost use Rattle.serde_json.specs.Data.{string};
 ghost use Rattle.serde_json.specs.Read.{read};
 ghost use Rattle.serde_json.specs.View.{view};
@@ -17,7 +17,7 @@ use std::sync::Arc;
 
 /// Whether the values of variables are written.
 #[derive(Clone, Copy, Debug, PartialEq, Eq)]
-pub enum Variables {
+pub enum Values {
     /// They are.
     Shown,
     /// Each stands as `null`. Such an entry can't be read back.
@@ -27,15 +27,15 @@ pub enum Variables {
 /// Returns the line of an entry, without a newline, as in `["open_read","notes","ok",3]`: an array
 /// of the request's name, what it was made with, and either `"ok"` and what was returned, or
 /// `"fault"` and its kind. Fails only at an allocation failure.
-pub fn entry_text(alloc: Global, entry: &Entry, variables: Variables) -> Result<String, AllocError>
+pub fn entry_text(alloc: Global, entry: &Entry, values: Values) -> Result<String, AllocError>
     ensures text { IfOk result (λ text. string_bytes text
-        ≡ compact_text (entry_data variables (entry_view entry.now))) }
+        ≡ compact_text (entry_data values (entry_view entry.now))) }
     ensures json { IfOk result
-        (λ text. read (string_bytes text) ≡ Some (entry_data variables (entry_view entry.now))) }
-    ensures shown { variables ≡ Variables.Shown → IfOk result
+        (λ text. read (string_bytes text) ≡ Some (entry_data values (entry_view entry.now))) }
+    ensures shown { values ≡ Values.Shown → IfOk result
         (λ text. line_meant (string_bytes text) ≡ Ok (entry_view entry.now)) }
 {
-    let value = entry.value(alloc, variables)?;
+    let value = entry.value(alloc, values)?;
     value.to_string(alloc)
 }
 
@@ -47,8 +47,8 @@ pub(crate) trait Written {
     ghost item: { Self → ItemView };
 
     /// Returns the value that the line has.
-    fn value(&self, alloc: Global, variables: Variables) -> Result<Value, AllocError>
-        ensures value { IfOk result (λ value. view value ≡ item_data variables (item self.now)) }
+    fn value(&self, alloc: Global, values: Values) -> Result<Value, AllocError>
+        ensures value { IfOk result (λ value. view value ≡ item_data values (item self.now)) }
         ensures writable { OnOk result (IsWritable (item self.now)) };
 }
 
@@ -56,30 +56,30 @@ pub(crate) trait Written {
 pub(crate) fn push_lines<T: Written>(
     alloc: Global,
     text: &mut String,
-    values: &[T],
-    variables: Variables,
+    items: &[T],
+    values: Values,
 ) -> Result<(), AllocError>
     ensures text { OnOk result (string_bytes text.new ≡ string_bytes text.old
-        ++ flat_map (item_text variables) (map T.item values.now)) }
-    ensures shown { variables ≡ Variables.Shown →
-        OnOk result (AllRead variables (map T.item values.now)) }
+        ++ flat_map (item_text values) (map T.item items.now)) }
+    ensures shown { values ≡ Values.Shown →
+        OnOk result (AllRead values (map T.item items.now)) }
 {
-    let mut rest = values;
-    while let Some((value, behind)) = rest.split_first() {
-        text.push_str(line(alloc, value, variables)?.as_str())?;
+    let mut rest = items;
+    while let Some((item, behind)) = rest.split_first() {
+        text.push_str(line(alloc, item, values)?.as_str())?;
         rest = behind;
     }
     Ok(())
 }
 
 #[tactic(auto, unfolding(crate::specs::Lines::item_text))]
-fn line<T: Written>(alloc: Global, item: &T, variables: Variables) -> Result<String, AllocError>
+fn line<T: Written>(alloc: Global, item: &T, values: Values) -> Result<String, AllocError>
     ensures text { IfOk result
-        (λ line. string_bytes line ≡ item_text variables (T.item item.now)) }
-    ensures shown { variables ≡ Variables.Shown → OnOk result
-        (ReadsFirst (item_text variables (T.item item.now)) (T.item item.now)) }
+        (λ line. string_bytes line ≡ item_text values (T.item item.now)) }
+    ensures shown { values ≡ Values.Shown → OnOk result
+        (ReadsFirst (item_text values (T.item item.now)) (T.item item.now)) }
 {
-    let value = item.value(alloc, variables)?;
+    let value = item.value(alloc, values)?;
     let mut line = value.to_string(alloc)?;
     line.push('\n')?;
     Ok(line)
@@ -89,9 +89,9 @@ impl Written for Entry {
     ghost item = { λ entry. Noted (entry_view entry) };
 
     #[tactic(auto, unfolding(crate::specs::Lines::item_data, crate::specs::Lines::entry_data))]
-    fn value(&self, alloc: Global, variables: Variables) -> Result<Value, AllocError> {
-        let mut items = request(alloc, self, variables)?;
-        let mut more = answer(alloc, self, variables)?;
+    fn value(&self, alloc: Global, values: Values) -> Result<Value, AllocError> {
+        let mut items = request(alloc, self, values)?;
+        let mut more = answer(alloc, self, values)?;
         items.append(&mut more)?;
         Ok(Value::Array(items))
     }
@@ -102,7 +102,7 @@ impl Written for (u64, ExitStatus) {
     ghost item = { Ended };
 
     #[tactic(auto, unfolding(crate::specs::Lines::item_data))]
-    fn value(&self, alloc: Global, _variables: Variables) -> Result<Value, AllocError> {
+    fn value(&self, alloc: Global, _values: Values) -> Result<Value, AllocError> {
         let (child, status) = self;
         let name = text(alloc, "ended")?;
         let (kind, code) = match status {
@@ -120,7 +120,7 @@ impl Written for (u64, Arc<Vec<u8>>) {
     ghost item = { λ output. Read (output_view output) };
 
     #[tactic(auto, unfolding(crate::specs::Lines::item_data))]
-    fn value(&self, alloc: Global, _variables: Variables) -> Result<Value, AllocError> {
+    fn value(&self, alloc: Global, _values: Values) -> Result<Value, AllocError> {
         let (end, bytes) = self;
         let name = text(alloc, "read")?;
         let bytes = input(alloc, bytes.as_slice())?;
@@ -132,9 +132,9 @@ impl Written for (u64, Arc<Vec<u8>>) {
 
 // A request: its name, and what it was made with.
 #[tactic(auto, unfolding(crate::specs::Lines::request_data))]
-fn request(alloc: Global, entry: &Entry, variables: Variables) -> Result<Vec<Value>, AllocError>
+fn request(alloc: Global, entry: &Entry, values: Values) -> Result<Vec<Value>, AllocError>
     ensures items { IfOk result
-        (λ items. map view items.items ≡ request_data variables (entry_view entry.now)) }
+        (λ items. map view items.items ≡ request_data values (entry_view entry.now)) }
     ensures writable { OnOk result (IsWritable (Noted (entry_view entry.now))) }
 {
     match entry {
@@ -145,7 +145,7 @@ fn request(alloc: Global, entry: &Entry, variables: Variables) -> Result<Vec<Val
         Entry::Duplicate(end, _) => two(alloc, "duplicate", Value::from(*end)),
         Entry::Parent(side, _) => two(alloc, "parent", text(alloc, side_name(*side))?),
         Entry::Canonicalize(path, _) => two(alloc, "canonicalize", text(alloc, path.as_str())?),
-        Entry::Spawn(spec, io, _) => spawn(alloc, spec, io, variables),
+        Entry::Spawn(spec, io, _) => spawn(alloc, spec, io, values),
         Entry::Feed(end, bytes, _) => {
             let name = text(alloc, "feed")?;
             let bytes = input(alloc, bytes.as_slice())?;
@@ -161,10 +161,10 @@ fn spawn(
     alloc: Global,
     spec: &CommandSpec,
     io: &[Stdio<u64>; 3],
-    variables: Variables,
+    values: Values,
 ) -> Result<Vec<Value>, AllocError>
     ensures items { IfOk result
-        (λ items. map view items.items ≡ spawn_data variables spec.now io.now) }
+        (λ items. map view items.items ≡ spawn_data values spec.now io.now) }
     ensures ordered { OnOk result (AreOrdered spec.now.vars) }
     ensures three { OnOk result (length io.now ≡ 3) }
 {
@@ -174,7 +174,7 @@ fn spawn(
     let Ok(vars) = spec.vars() else {
         return Err(AllocError);
     };
-    let vars = listed(alloc, vars.as_slice(), variables)?;
+    let vars = listed(alloc, vars.as_slice(), values)?;
     let ports = ports(alloc, spec)?;
     let streams = streams(alloc, io)?;
     Ok(vec![in alloc; name, words, folder, vars, ports, streams]?)
@@ -195,22 +195,22 @@ fn input(alloc: Global, bytes: &[u8]) -> Result<Value, AllocError>
 fn numbers(alloc: Global, bytes: &[u8]) -> Result<Value, AllocError>
     ensures { IfOk result (λ value. view value ≡ list_data (map number_data bytes.now)) }
 {
-    let mut values = Vec::new(alloc);
+    let mut items = Vec::new(alloc);
     for byte in bytes {
-        values.push(Value::from(*byte))?;
+        items.push(Value::from(*byte))?;
     }
-    Ok(Value::Array(values))
+    Ok(Value::Array(items))
 }
 
 fn words(alloc: Global, words: &[String]) -> Result<Value, AllocError>
     ensures { IfOk result
         (λ value. view value ≡ list_data (map string (map string_bytes words.now))) }
 {
-    let mut values = Vec::new(alloc);
+    let mut items = Vec::new(alloc);
     for word in words {
-        values.push(text(alloc, word.as_str())?)?;
+        items.push(text(alloc, word.as_str())?)?;
     }
-    Ok(Value::Array(values))
+    Ok(Value::Array(items))
 }
 
 fn folder(alloc: Global, folder: Option<&str>) -> Result<Value, AllocError>
@@ -223,46 +223,41 @@ fn folder(alloc: Global, folder: Option<&str>) -> Result<Value, AllocError>
 }
 
 #[tactic(auto, unfolding(crate::specs::Lines::variables_data))]
-fn listed(alloc: Global, pairs: &[(&str, &str)], variables: Variables) -> Result<Value, AllocError>
+fn listed(alloc: Global, pairs: &[(&str, &str)], values: Values) -> Result<Value, AllocError>
     ensures { IfOk result (λ value. view value
-        ≡ variables_data variables (map (λ p. (p.0.now, p.1.now)) pairs.now)) }
+        ≡ variables_data values (map (λ p. (p.0.now, p.1.now)) pairs.now)) }
 {
-    let mut values = Vec::new(alloc);
+    let mut items = Vec::new(alloc);
     for pair in pairs {
-        values.push(variable(alloc, pair.0, pair.1, variables)?)?;
+        items.push(variable(alloc, pair.0, pair.1, values)?)?;
     }
-    Ok(Value::Array(values))
+    Ok(Value::Array(items))
 }
 
 #[tactic(auto, unfolding(crate::specs::Lines::variables_data))]
 fn environment(
     alloc: Global,
     pairs: &[(String, String)],
-    variables: Variables,
+    values: Values,
 ) -> Result<Value, AllocError>
     ensures { IfOk result
-        (λ value. view value ≡ variables_data variables (map pair_text pairs.now)) }
+        (λ value. view value ≡ variables_data values (map pair_text pairs.now)) }
 {
-    let mut values = Vec::new(alloc);
+    let mut items = Vec::new(alloc);
     for pair in pairs {
-        values.push(variable(alloc, pair.0.as_str(), pair.1.as_str(), variables)?)?;
+        items.push(variable(alloc, pair.0.as_str(), pair.1.as_str(), values)?)?;
     }
-    Ok(Value::Array(values))
+    Ok(Value::Array(items))
 }
 
 #[tactic(auto, unfolding(crate::specs::Lines::variable_data))]
-fn variable(
-    alloc: Global,
-    name: &str,
-    value: &str,
-    variables: Variables,
-) -> Result<Value, AllocError>
+fn variable(alloc: Global, name: &str, value: &str, values: Values) -> Result<Value, AllocError>
     ensures { IfOk result
-        (λ pair. view pair ≡ variable_data variables (name.now, value.now)) }
+        (λ pair. view pair ≡ variable_data values (name.now, value.now)) }
 {
-    let value = match variables {
-        Variables::Shown => text(alloc, value)?,
-        Variables::Hidden => Value::Null,
+    let value = match values {
+        Values::Shown => text(alloc, value)?,
+        Values::Hidden => Value::Null,
     };
     Ok(Value::Array(vec![in alloc; text(alloc, name)?, value]?))
 }
@@ -320,13 +315,13 @@ fn side_name(side: Side) -> &'static str
 // ---- answers
 
 #[tactic(auto, unfolding(crate::specs::Lines::answer_data))]
-fn answer(alloc: Global, entry: &Entry, variables: Variables) -> Result<Vec<Value>, AllocError>
+fn answer(alloc: Global, entry: &Entry, values: Values) -> Result<Vec<Value>, AllocError>
     ensures { IfOk result
-        (λ items. map view items.items ≡ answer_data variables (entry_view entry.now)) }
+        (λ items. map view items.items ≡ answer_data values (entry_view entry.now)) }
 {
     match entry {
         Entry::Environment(Ok(pairs)) => {
-            let pairs = environment(alloc, pairs.as_slice(), variables)?;
+            let pairs = environment(alloc, pairs.as_slice(), values)?;
             two(alloc, "ok", pairs)
         }
         Entry::Pipe(Ok((reader, writer))) => {

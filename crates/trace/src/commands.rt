@@ -16,7 +16,7 @@ ghost use Rattle.trace.specs.Commands.{IsJudged, IsReplayed};
 use duct::{Entry, Expression, Hook, Numbered, System};
 use duct_program::{NoHook, Program, Usage, line, path_and_words, perform, text_at};
 use duct_replay::{
-    Recording, Records, Refusal, Replay, ReplayEnd, ReplayReader, Variables, Verdict, judge,
+    Recording, Records, Refusal, Replay, ReplayEnd, ReplayReader, Values, Verdict, judge,
     read_recording, recording_text,
 };
 use duct_shell::RequestText;
@@ -54,16 +54,16 @@ pub fn recorded<R: Files + Wait + AllocGlobal, S: Records, O: Write, E: Write>(
     out: &mut O,
     err: &mut E,
 ) -> u8 {
-    let (variables, arguments) = match arguments.split_first() {
-        Some((first, others)) if first.as_str() == "--hide" => (Variables::Hidden, others),
-        Some(_) | None => (Variables::Shown, arguments),
+    let (values, arguments) = match arguments.split_first() {
+        Some((first, others)) if first.as_str() == "--hide" => (Values::Hidden, others),
+        Some(_) | None => (Values::Shown, arguments),
     };
     let Some((path, words)) = path_and_words(arguments) else {
         let usage = "record: usage: trace record [--hide] JOURNAL -- WORD..\n";
         return RECORD.tell(err, 2, usage);
     };
     match journal_file(rt, path) {
-        Ok(mut file) => record(rt, rt.alloc(), sys, words, variables, &mut file, out, err),
+        Ok(mut file) => record(rt, rt.alloc(), sys, words, values, &mut file, out, err),
         Err(error) => RECORD.tell_error(err, &error, 2, "record: journal can't be opened\n"),
     }
 }
@@ -77,7 +77,7 @@ fn record<S: Records, J: Write, O: Write, E: Write>(
     alloc: Global,
     sys: &mut S,
     args: &[String],
-    variables: Variables,
+    values: Values,
     journal: &mut J,
     out: &mut O,
     err: &mut E,
@@ -92,7 +92,7 @@ fn record<S: Records, J: Write, O: Write, E: Write>(
         × (recording.entries ≡ (S.journal_view sys.new).entries)
         × S.may_record sys.new recording
         × Appends (J.contents journal.old) (J.contents journal.new)
-        (recorded_text variables (recorded_view recording)) }
+        (recorded_text values (recorded_view recording)) }
     ensures one { result ≤ 2 → (out.new ≡ out.old) ⊎ (err.new ≡ err.old) }
     ensures status { result ≤ 3 }
 {
@@ -100,7 +100,7 @@ fn record<S: Records, J: Write, O: Write, E: Write>(
     let Ok(recording) = sys.recording() else {
         return RECORD.tell(err, 3, RECORD.no_memory);
     };
-    let Ok(text) = recording_text(alloc, &recording, variables) else {
+    let Ok(text) = recording_text(alloc, &recording, values) else {
         return RECORD.tell(err, 3, RECORD.no_memory);
     };
     match journal.write_all(text.as_bytes()) {

@@ -12,7 +12,7 @@ use duct_guard::{
 };
 use duct_host::Host;
 use duct_program::line;
-use duct_replay::{Variables, journal_text};
+use duct_replay::{Values, journal_text};
 use rows_table::Real;
 use std::alloc::{AllocError, Global};
 use std::io;
@@ -75,7 +75,7 @@ fn told<S: System + Drop, P: Policy + Drop>(
         running,
         returned,
     } = read_under(policy, rt, alloc, system, &mut pool, expression);
-    let journal = journal_text(alloc, system.journal(), Variables::Shown)?;
+    let journal = journal_text(alloc, system.journal(), Values::Shown)?;
     let (ends, children) = (held.ends, held.children);
     match returned {
         Ok(text) => format!(in alloc; "{text:?}\n{journal}{ends} {children} {running}\n"),

@@ -4,7 +4,7 @@ use duct::{Entry, Error, System};
 use duct_plan::{PlanDot, PlanText, plan, print};
 use duct_program::{Usage, line};
 use duct_replay::{
-    LineRefusal, Refusal, ReplayEnd, Variables, Verdict, journal_text, judge, read_journal,
+    LineRefusal, Refusal, ReplayEnd, Values, Verdict, journal_text, judge, read_journal,
 };
 use duct_shell::RequestText;
 use rows_table::{TableError, Tree, arguments, written};
@@ -32,7 +32,7 @@ fn push_written(
     entries: &[Entry],
     record: &str,
 ) -> Result<(), TableError> {
-    let again = journal_text(row.alloc, entries, Variables::Shown)?;
+    let again = journal_text(row.alloc, entries, Values::Shown)?;
     if again.as_str() == record {
         return Ok(text.push_str("same")?);
     }

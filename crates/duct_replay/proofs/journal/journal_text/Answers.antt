@@ -7,10 +7,10 @@ use Rattle.duct_replay.proofs.journal.journal_text.Goals as goal
 
 pub returns-clause-text : goal.returns-clause-text
 returns-clause-text c =
-    c.in_ok-push_lines.ensures.text ∙ ap (λ text. text ++ flat_map (item_text c.args.variables) (map (λ entry. Noted (entry_view entry)) c.args.entries.now)) c.new-text.ensures.bytes
-    ∙ ap (flat_map (item_text c.args.variables)) (map_map Noted entry_view c.args.entries.now)
+    c.in_ok-push_lines.ensures.text ∙ ap (λ text. text ++ flat_map (item_text c.args.values) (map (λ entry. Noted (entry_view entry)) c.args.entries.now)) c.new-text.ensures.bytes
+    ∙ ap (flat_map (item_text c.args.values)) (map_map Noted entry_view c.args.entries.now)
 
 pub returns-clause-shown : goal.returns-clause-shown
 returns-clause-shown c shown =
-    let all = subst (AllRead c.args.variables) (map_map Noted entry_view c.args.entries.now) (c.in_ok-push_lines.ensures.shown shown) in
-    journal_back c.args.variables (map entry_view c.args.entries.now) _ all (returns-clause-text c)
+    let all = subst (AllRead c.args.values) (map_map Noted entry_view c.args.entries.now) (c.in_ok-push_lines.ensures.shown shown) in
+    journal_back c.args.values (map entry_view c.args.entries.now) _ all (returns-clause-text c)

@@ -7,4 +7,4 @@ use Rattle.duct_replay.proofs.write.environment.Given as goal
 
 abbrev pub invariant-loop-pair : goal.invariant-loop-pair
 invariant-loop-pair l =
-    map view l.values.items ≡ map (variable_data l.variables) (map pair_text (take l.pair-index l.pairs))
+    map view l.items.items ≡ map (variable_data l.values) (map pair_text (take l.pair-index l.pairs))

@@ -6,4 +6,4 @@ use Rattle.duct_replay.proofs.write.listed.Given as goal
 
 abbrev pub invariant-loop-pair : goal.invariant-loop-pair
 invariant-loop-pair l =
-    map view l.values.items ≡ map (variable_data l.variables) (map (λ p. (p.0.now, p.1.now)) (take l.pair-index l.pairs))
+    map view l.items.items ≡ map (variable_data l.values) (map (λ p. (p.0.now, p.1.now)) (take l.pair-index l.pairs))

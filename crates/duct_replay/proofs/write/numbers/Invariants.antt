@@ -6,4 +6,4 @@ use Rattle.duct_replay.proofs.write.numbers.Given as goal
 
 abbrev pub invariant-loop-byte : goal.invariant-loop-byte
 invariant-loop-byte l =
-    map view l.values.items ≡ map number_data (take l.byte-index l.bytes)
+    map view l.items.items ≡ map number_data (take l.byte-index l.bytes)

@@ -6,4 +6,4 @@ use Rattle.duct_replay.proofs.write.words.Given as goal
 
 abbrev pub invariant-loop-word : goal.invariant-loop-word
 invariant-loop-word l =
-    map view l.values.items ≡ map string (map string_bytes (take l.word-index l.words))
+    map view l.items.items ≡ map string (map string_bytes (take l.word-index l.words))
