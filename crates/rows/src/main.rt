@@ -9,18 +9,26 @@
 //! allocations were made before the first row, as many as `--spend=7` asks for. The line `left 9`
 //! after them says that nine more succeeded before one failed, of ten thousand at most. So if the
 //! Nth allocation of the process fails, `--spend` chooses which one of a row that is.
+//!
+//! With `--lines` the program runs what the lines of standard input say (`lines`), and with
+//! `--guarded` as the first argument it reads a line under a policy (`guarded`).
 #![tactic(auto)]
 
+mod guarded;
+mod lines;
 mod parts;
 
+use crate::guarded::read_line;
+use crate::lines::run_lines;
 use crate::parts::Parts;
+use duct_program::arguments;
 use rows_runs::{Calls, HostMachine, Scripted};
 use rows_table::{Counts, File, Real, TableError, compare, filled};
 use std::alloc::Global;
-use std::io::{self, Write};
+use std::fs;
+use std::io::{self, Read, Write};
 use std::process::ExitCode;
 use std::sync::Wait;
-use std::{env, fs};
 
 /// Tries the rows of a file by the table that its first line names. Fails if there is no such
 /// table, if its first row can't be set up, or if the output can't be written.
@@ -35,9 +43,8 @@ fn tried<R: Real + Wait, W: Write>(rt: &R, file: File, out: &mut W) -> Result<Co
         "host calls" => {
             let text = filled(rt, file.text)?;
             let file = File {
-                name: file.name,
                 text: text.as_str(),
-                is_told: file.is_told,
+                ..file
             };
             let mut calls = Calls::new(rt, alloc, HostMachine::new(rt)?);
             Ok(compare(alloc, &mut calls, file, out)?)
@@ -107,13 +114,24 @@ fn file<R: Real + Wait, W: Write>(
 
 /// Tries the files that the arguments name, each with the options before it. Returns whether all of
 /// their rows hold.
-fn files<R: Real + Wait, W: Write>(rt: &R, out: &mut W) -> io::Result<bool> {
+fn files<R: Real + Wait, I: Read, W: Write>(
+    rt: &R,
+    arguments: &[String],
+    input: &mut I,
+    out: &mut W,
+) -> io::Result<bool> {
     let mut options = Options::default();
     let mut holds = true;
-    for argument in env::args(rt)?.skip(1) {
+    for argument in arguments {
         match argument.as_str() {
             "--quiet" => options.is_quiet = true,
             "--tell" => options.is_told = true,
+            "--lines" => {
+                if let Err(stop) = run_lines(rt, input, out) {
+                    writeln!(out, "{stop}")?;
+                    holds = false;
+                }
+            }
             argument => match argument.strip_prefix("--spend=") {
                 Some(count) => options.spent = count.parse().unwrap_or(0),
                 None => holds = file(rt, argument, options, out)? && holds,
@@ -124,7 +142,12 @@ fn files<R: Real + Wait, W: Write>(rt: &R, out: &mut W) -> io::Result<bool> {
 }
 
 fn main(rt: HostRuntime) -> io::Result<ExitCode> {
+    let words = arguments(&rt)?;
     let mut out = io::writer(&rt);
-    let holds = files(&rt, &mut out)?;
+    let mut holds = true;
+    match words.as_slice() {
+        [first, line @ ..] if first.as_str() == "--guarded" => read_line(&&rt, line, &mut out)?,
+        words => holds = files(&&rt, words, &mut rt.stdin(), &mut out)?,
+    }
     Ok(ExitCode::from(u8::from(!holds)))
 }

@@ -1,6 +1,6 @@
 //! The table of calls over the real machine (`docs/ROWS.md`). Each row has a host of its own.
 use crate::machine::{Machine, PartsOf, PoolOf, TURNS};
-use duct::{Clock, Numbered, Pool};
+use duct::{Clock, Fault, Numbered, Pool};
 use duct_host::{Child, End, Host, HostClock};
 use rows_table::{Left, Lender, Real, TableError, count_left, first_word, named};
 use std::fs::{self, File, Permissions};
@@ -8,6 +8,9 @@ use std::io::{self, Write};
 use std::os::unix::fs::PermissionsExt;
 use std::thread;
 use std::time::Duration;
+
+/// How many times a row waits for what is left to go, once the pool is empty.
+const LOOKS: u32 = 2_000;
 
 /// A host with a pool, the adopted ends that are not used yet, and what there was when the row
 /// began.
@@ -55,28 +58,40 @@ impl<R: Real> HostMachine<R> {
         Ok(true)
     }
 
-    /// Sweeps the pool until it is empty, for about half a minute at most, and lets go of all
-    /// adopted ends.
-    fn clear(&mut self) {
+    /// Lets go of all adopted ends, and sweeps the pool until as much is left as there was when the
+    /// row began. Waits for that half a minute at most, and only two seconds once the pool is
+    /// empty. Returns whether it is so then. Fails if what is left can't be counted.
+    pub fn clear(&mut self) -> Result<bool, TableError> {
+        self.adopted.clear();
+        let mut looks = 0_u32;
         for _ in 0..TURNS {
             self.pool.sweep();
-            if self.pool.len() == 0 {
-                break;
+            if count_left(&self.rt)? == self.before {
+                return Ok(true);
+            }
+            looks = looks.saturating_add(u32::from(self.pool.len() == 0));
+            if looks > LOOKS {
+                return Ok(false);
             }
             self.pause();
         }
-        self.adopted.clear();
+        Ok(false)
     }
 }
 
 impl<R: Real> Lender for HostMachine<R> {
     type End = End;
 
-    /// Removes the adopted end with this number, and returns it.
+    /// Removes the adopted end with this number, and returns it. If there is none, opens the file
+    /// of that name for reading.
     fn lend(&mut self, number: u64) -> Result<End, TableError> {
         match self.adopted.iter().position(|end| end.number() == number) {
             Some(place) if place < self.adopted.len() => Ok(self.adopted.remove(place)),
-            _ => Err(TableError::Text("there is no such end")),
+            _ => {
+                let name = format!(in self.rt.alloc(); "{number}")?;
+                let file = File::open(&self.rt, name.as_str()).map_err(Fault::from)?;
+                Ok(self.system.adopt_file(file)?)
+            }
         }
     }
 }
@@ -130,10 +145,9 @@ impl<R: Real> Machine for HostMachine<R> {
     }
 
     fn end(&mut self) -> Result<(), TableError> {
-        self.clear();
-        let (before, left) = (self.before, count_left(&self.rt)?);
+        let is_clear = self.clear()?;
         *self = HostMachine::new(&self.rt)?;
-        if left == before {
+        if is_clear {
             Ok(())
         } else {
             Err(TableError::Text("a file descriptor or a child is left"))

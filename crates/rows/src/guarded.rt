@@ -1,5 +1,5 @@
 //! A line that is read over the real machine under a policy:
-//! `trial PROGRAMS FOLDERS ENDS CHILDREN AT_ONCE CREATES -- WORD..`, where the words are those
+//! `rows --guarded PROGRAMS FOLDERS ENDS CHILDREN AT_ONCE CREATES WORD..`, where the words are those
 //! of the program `host`. It allows the programs and the folders of these lists, whose items `:`
 //! separates; so many ends that are open, so many children that are ever started, and so many that
 //! run at once; and files to be created where `CREATES` is `yes`. It prints the text or the error,
@@ -59,7 +59,7 @@ fn listed(alloc: Global, lists: [&str; 2], limits: [&str; 3]) -> io::Result<List
 }
 
 /// Reads an expression under a policy. Returns what came of it as text.
-fn told<S: System + Drop, P: Policy + Drop>(
+fn read_text<S: System + Drop, P: Policy + Drop>(
     rt: &impl Wait,
     alloc: Global,
     system: S,
@@ -84,7 +84,7 @@ fn told<S: System + Drop, P: Policy + Drop>(
 }
 
 /// Reads a line under a policy, or under that and `ReadOnly`. Returns what came of it as text.
-fn line_told<S: System + Drop>(
+fn line_text<S: System + Drop>(
     rt: &impl Wait,
     alloc: Global,
     system: S,
@@ -98,13 +98,13 @@ fn line_told<S: System + Drop>(
         return Err(io::Error::from(ErrorKind::InvalidInput));
     };
     if creates {
-        return Ok(told(rt, alloc, system, policy, &expression)?);
+        return Ok(read_text(rt, alloc, system, policy, &expression)?);
     }
     let policy = Both {
         first: ReadOnly,
         second: policy,
     };
-    Ok(told(rt, alloc, system, policy, &expression)?)
+    Ok(read_text(rt, alloc, system, policy, &expression)?)
 }
 
 /// Reads the line of these arguments, and writes what came of it.
@@ -120,7 +120,6 @@ pub fn read_line<R: Real + Wait, O: Write>(
         children,
         at_once,
         creates,
-        mark,
         words @ ..,
     ] = words
     else {
@@ -130,7 +129,7 @@ pub fn read_line<R: Real + Wait, O: Write>(
     let limits = [ends.as_str(), children.as_str(), at_once.as_str()];
     let policy = listed(rt.alloc(), lists, limits)?;
     let host = Host::new(rt.clone()?, rt.alloc());
-    let creates = creates.as_str() == "yes" && mark.as_str() == "--";
-    let told = line_told(rt, rt.alloc(), host, policy, creates, words)?;
-    out.write_all(told.as_bytes())
+    let creates = creates.as_str() == "yes";
+    let text = line_text(rt, rt.alloc(), host, policy, creates, words)?;
+    out.write_all(text.as_bytes())
 }
