@@ -23,7 +23,7 @@ use crate::lines::run_lines;
 use crate::parts::Parts;
 use duct_program::arguments;
 use rows_runs::{Calls, HostMachine, Scripted};
-use rows_table::{Counts, File, Real, TableError, compare, filled};
+use rows_table::{Real, RowFile, TableError, Tally, compare, filled};
 use std::alloc::Global;
 use std::fs;
 use std::io::{self, Read, Write};
@@ -32,7 +32,7 @@ use std::sync::Wait;
 
 /// Tries the rows of a file by the table that its first line names. Fails if there is no such
 /// table, if its first row can't be set up, or if the output can't be written.
-fn tried<R: Real + Wait, W: Write>(rt: &R, file: File, out: &mut W) -> Result<Counts, TableError> {
+fn rows<R: Real + Wait, W: Write>(rt: &R, file: RowFile, out: &mut W) -> Result<Tally, TableError> {
     let alloc = rt.alloc();
     let first = file.text.lines().next().unwrap_or("");
     match first.strip_prefix("table: ").unwrap_or("") {
@@ -42,7 +42,7 @@ fn tried<R: Real + Wait, W: Write>(rt: &R, file: File, out: &mut W) -> Result<Co
         }
         "host calls" => {
             let text = filled(rt, file.text)?;
-            let file = File {
+            let file = RowFile {
                 text: text.as_str(),
                 ..file
             };
@@ -86,7 +86,7 @@ fn file<R: Real + Wait, W: Write>(
     out: &mut W,
 ) -> io::Result<bool> {
     let text = fs::read_to_string(rt, name)?;
-    let file = File {
+    let file = RowFile {
         name,
         text: text.as_str(),
         is_told: options.is_told,
@@ -95,11 +95,11 @@ fn file<R: Real + Wait, W: Write>(
         let spent = allocations(rt.alloc(), options.spent);
         writeln!(out, "{name}\nspent {spent}")?;
     }
-    let counts = match tried(rt, file, out) {
+    let counts = match rows(rt, file, out) {
         Ok(counts) => counts,
         Err(stop) => {
             writeln!(out, "1 stops: {stop}")?;
-            Counts::default()
+            Tally::default()
         }
     };
     if options.is_told {

@@ -6,11 +6,8 @@ mod statuses;
 mod transfers;
 mod words;
 
-use duct_base::names::EnvNameString;
 use rows_table::{Strangers, Table, TableError, Writing, first_word};
-use std::alloc::{AllocError, Global};
-use std::collections::HashSet;
-use std::convert::AsStr;
+use std::alloc::Global;
 
 /// The keys of the lines that set something up.
 const SET: &str = "shape captured events bytes expression record arguments text";
@@ -50,10 +47,9 @@ impl<'t> Parts<'t> {
             (call @ ("fed" | "drained"), script) => transfers::push(text, self, call, script),
             ("shows", _) => self.push_shown(text, usize::MAX),
             ("first", _) => self.push_shown(text, 1),
-            ("names", names) => Ok(push_names(text, self.alloc, names)?),
             ("tokens" | "meant" | "quoted" | "shell", _) => words::push(text, self, key),
             ("requested" | "drawn" | "planned", _) => records::push_planned(text, self, key),
-            ("read" | "again" | "judged", _) => records::push(text, self, key),
+            ("read" | "judged", _) => records::push(text, self, key),
             _ => Err(TableError::Text("no such key")),
         }
     }
@@ -89,15 +85,4 @@ impl<'t> Table<'t> for Parts<'t> {
         self.set.clear();
         Ok(())
     }
-}
-
-/// Adds the spellings that some names of variables keep, and how many different names they are.
-fn push_names(text: &mut String, alloc: Global, spellings: &str) -> Result<(), AllocError> {
-    let mut names = HashSet::new(alloc);
-    for spelling in spellings.split(' ') {
-        let name = EnvNameString::from(String::from_str(alloc, spelling)?);
-        write!(text, "{} ", name.as_str())?;
-        names.insert(name)?;
-    }
-    write!(text, "are {}", names.len())
 }

@@ -1,10 +1,10 @@
 //! The tables of calls over any system (`docs/ROWS.md`): expressions that are run, read or started,
 //! with the results of the calls on what was started.
 use crate::machine::{Machine, TURNS};
-use crate::programs::{Performed, push_line};
+use crate::programs::{push_line, push_performed};
 use crate::started::{Started, polled, start};
 use crate::tasks::{keep_running, run_tasks};
-use crate::texts::{push_done, push_polled, push_read, push_run};
+use crate::texts::{push_done, push_error, push_polled, push_read, push_run};
 use duct::{Clock, Error, Handle, System};
 use duct_script::is_balanced;
 use duct_tasks::{Until, read_until, run_until};
@@ -31,8 +31,6 @@ pub struct Calls<'t, 'r, R, M> {
     expression: &'t str,
     arguments: &'t str,
     answers: String,
-    /// What the program did, if it did anything.
-    performed: Option<Performed>,
     /// Whether the call of the line gives no child that it started to the pool.
     is_kept: bool,
     /// Whether the pool was given another number of children than it had to be.
@@ -49,7 +47,6 @@ impl<'t, 'r, R: Wait + Threads, M: Machine> Calls<'t, 'r, R, M> {
             expression: "",
             arguments: "",
             answers: String::new(alloc),
-            performed: None,
             is_kept: false,
             is_lost: false,
         }
@@ -126,7 +123,7 @@ impl<'t, 'r, R: Wait + Threads, M: Machine> Calls<'t, 'r, R, M> {
                 let spent = self.spend(started, end);
                 made.and(spent)
             }
-            Err(error) => Ok(write!(self.answers, "{error}. ")?),
+            Err(error) => Ok(push_error(&mut self.answers, &error)?),
         }
     }
 
@@ -178,8 +175,8 @@ impl<'t, 'r, R: Wait + Threads, M: Machine> Calls<'t, 'r, R, M> {
                 self.is_kept = true;
                 self.machine.spend(running.into_parts())
             }
-            (Started::Handle(watched), "into" | "lend") => {
-                self.into_output(watched.into_handle(), end, mark)
+            (Started::Handle(line), "into" | "lend") => {
+                self.into_output(line.into_handle(), end, mark)
             }
             (started, _) => {
                 started.give_up(self.machine.stage().1);
@@ -262,8 +259,8 @@ impl<'t, 'r, R: Wait + Threads, M: Machine> Calls<'t, 'r, R, M> {
         let room = if text == "unwritten" { 0 } else { ROOM };
         let (system, _, _) = self.machine.stage();
         self.is_kept = true;
-        self.performed = Some(Performed::of(self.rt, self.alloc, system, self.arguments, room)?);
-        Ok(())
+        let (rt, alloc, arguments) = (self.rt, self.alloc, self.arguments);
+        Ok(push_performed(&mut self.answers, rt, alloc, system, arguments, room)?)
     }
 
     fn sweep(&mut self, text: &str) -> Result<(), TableError> {
@@ -285,10 +282,6 @@ impl<'t, 'r, R: Wait + Threads, M: Machine> Calls<'t, 'r, R, M> {
             "answers" if self.answers.is_empty() => out.push_str("started.")?,
             "answers" => out.push_str(self.answers.as_str())?,
             "line" => push_line(out, self.alloc, self.arguments)?,
-            "status" | "out" | "err" => match &self.performed {
-                Some(performed) => performed.push(out, key)?,
-                None => return Err(TableError::Text("the program has done nothing")),
-            },
             "pool" => push_pool(out, pool)?,
             "trace" => push_trace(out, self.alloc, system.journal())?,
             "journal" => push_journal(out, system.journal())?,

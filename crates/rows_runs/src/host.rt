@@ -2,7 +2,7 @@
 use crate::machine::{Machine, PartsOf, PoolOf, TURNS};
 use duct::{Clock, Fault, Numbered, Pool};
 use duct_host::{Child, End, Host, HostClock};
-use rows_table::{Left, Lender, Real, TableError, count_left, first_word, named};
+use rows_table::{Lender, Real, TableError, count_left, first_word};
 use std::fs::{self, File, Permissions};
 use std::io::{self, Write};
 use std::os::unix::fs::PermissionsExt;
@@ -12,8 +12,8 @@ use std::time::Duration;
 /// How many times a row waits for what is left to go, once the pool is empty.
 const LOOKS: u32 = 2_000;
 
-/// A host with a pool, the adopted ends that are not used yet, and what there was when the row
-/// began.
+/// A host with a pool, the adopted ends that are not used yet, and how many file descriptors and
+/// children there were when the row began.
 #[derive(Drop)]
 pub struct HostMachine<R: Real> {
     rt: R,
@@ -21,7 +21,7 @@ pub struct HostMachine<R: Real> {
     system: Host<R>,
     pool: Pool<Child<R>>,
     adopted: Vec<End>,
-    before: Left,
+    before: (usize, usize),
 }
 
 impl<R: Real> HostMachine<R> {
@@ -155,14 +155,21 @@ impl<R: Real> Machine for HostMachine<R> {
     }
 }
 
-const MODES: [(&str, u32); 2] = [("rw-r--r--", 0o644), ("rwxr-xr-x", 0o755)];
+/// Returns the permissions with this name.
+fn permissions(name: &str) -> Result<Permissions, TableError> {
+    match name {
+        "rw-r--r--" => Ok(Permissions::from_mode(0o644)),
+        "rwxr-xr-x" => Ok(Permissions::from_mode(0o755)),
+        _ => Err(TableError::Text("no such mode")),
+    }
+}
 
 /// Makes a change of files. Fails if there is no such key, or if the change fails.
 fn arrange<R: Real>(rt: &R, key: &str, text: &str) -> Result<(), TableError> {
     let (path, more) = first_word(text);
     match key {
         "write" => fs::write(rt, path, more.replace(rt.alloc(), "{feed}", "\n")?)?,
-        "mode" => fs::set_permissions(rt, path, Permissions::from_mode(named(&MODES, more)?))?,
+        "mode" => fs::set_permissions(rt, path, permissions(more)?)?,
         "make_folder" => fs::create_dir(rt, path)?,
         "remove_folder" => fs::remove_dir(rt, path)?,
         "remove" => fs::remove_file(rt, path)?,

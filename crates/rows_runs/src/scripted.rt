@@ -3,7 +3,8 @@ use crate::machine::{Machine, PartsOf, PoolOf};
 use duct::{Numbered, System};
 use duct_script::{Script, ScriptChild, ScriptClock, ScriptEnd};
 use rows_table::{
-    Bench, Lender, Log, Strangers, TableError, duration, most_held, program, push_noted, push_turns,
+    Bench, Lender, Log, Strangers, TableError, duration, most_held, program_of, push_calls,
+    push_turns,
 };
 use std::alloc::{AllocError, Global};
 
@@ -49,7 +50,7 @@ impl Scripted {
     }
 
     fn push_child(&mut self, child: &ScriptChild) -> Result<(), AllocError> {
-        let program = program(self.bench.sys.journal(), child.number()).unwrap_or("nobody");
+        let program = program_of(self.bench.sys.journal(), child.number()).unwrap_or("nobody");
         write!(self.parts, "{program} {}", child.polls())?;
         for (order, _) in child.orders() {
             write!(self.parts, " {order:?}")?;
@@ -92,8 +93,8 @@ impl Machine for Scripted {
     fn line(&mut self, key: &str, text: &str, out: &mut String) -> Result<bool, TableError> {
         let [begun, started, called] = self.marks;
         match key {
-            "during" => push_noted(out, &self.bench, begun, started)?,
-            "calls" => push_noted(out, &self.bench, started, called)?,
+            "during" => push_calls(out, &self.bench, begun, started)?,
+            "calls" => push_calls(out, &self.bench, started, called)?,
             "within" => {
                 let most = most_held(self.alloc, self.bench.sys.journal())?;
                 write!(out, "{}", most.max(text.parse().unwrap_or(0)))?;
@@ -120,7 +121,7 @@ impl Machine for Scripted {
         for id in ids {
             // The id of a scripted child is its number plus 1000.
             let number = u64::from(*id).saturating_sub(1000);
-            let program = program(self.bench.sys.journal(), number).unwrap_or("nobody");
+            let program = program_of(self.bench.sys.journal(), number).unwrap_or("nobody");
             write!(answer, " {program}")?;
         }
         Ok(answer.push_str(". ")?)

@@ -2,7 +2,7 @@
 ghost use Rattle.std.specs.Prelude.{◌≡◌};
 
 use crate::machine::{Machine, PoolOf, TURNS};
-use crate::texts::push_all;
+use crate::texts::{push_all, push_error};
 use duct::unix::HandleExt;
 use duct::{Clock, Error, Handle, Output, ReaderHandle, Running, Seen, System};
 use rows_table::{Bytes, TableError, Tree, duration, first_word};
@@ -16,12 +16,12 @@ type Polled = Result<Option<Arc<Output>>, Error>;
 /// What was started.
 pub enum Started<'r, R, S: System> {
     Running(Running<S>),
-    Handle(Watched<S>),
+    Handle(LineHandle<S>),
     Reader(ReaderHandle<S, &'r R>),
 }
 
 /// A handle, and the token of its line.
-pub struct Watched<S: System> {
+pub struct LineHandle<S: System> {
     handle: Handle<S>,
     seen: Seen<S>,
     ghost same: { seen.cell ≡ handle.cell },
@@ -40,7 +40,7 @@ pub fn start<'r, R: Wait, S: System>(
         "handle" => {
             let handle = tree.start(system, pool)?;
             let seen = handle.seen();
-            Ok(Started::Handle(Watched { handle, seen }))
+            Ok(Started::Handle(LineHandle { handle, seen }))
         }
         "reader" => Ok(Started::Reader(tree.reader(rt, system, pool)?)),
         "launch_reader" => {
@@ -56,7 +56,7 @@ impl<R: Wait, S: System> Started<'_, R, S> {
     pub fn pids(&self) -> &[u32] {
         match self {
             Started::Running(running) => running.pids(),
-            Started::Handle(watched) => watched.handle.pids(),
+            Started::Handle(line) => line.handle.pids(),
             Started::Reader(handle) => handle.pids(),
         }
     }
@@ -65,7 +65,7 @@ impl<R: Wait, S: System> Started<'_, R, S> {
     pub fn give_up(self, pool: &mut PoolOf<S>) {
         match self {
             Started::Running(running) => running.give_up(pool),
-            Started::Handle(watched) => watched.into_handle().give_up(pool),
+            Started::Handle(line) => line.into_handle().give_up(pool),
             Started::Reader(handle) => handle.give_up(pool),
         }
     }
@@ -74,7 +74,7 @@ impl<R: Wait, S: System> Started<'_, R, S> {
     pub fn kill(&mut self, rt: &R) -> Result<(), Error> {
         match self {
             Started::Running(running) => running.kill(),
-            Started::Handle(watched) => watched.handle.kill(rt),
+            Started::Handle(line) => line.handle.kill(rt),
             Started::Reader(handle) => handle.kill(),
         }
     }
@@ -83,7 +83,7 @@ impl<R: Wait, S: System> Started<'_, R, S> {
     pub fn signal(&mut self, rt: &R, signal: i32) -> Result<Result<(), Error>, TableError> {
         match self {
             Started::Running(running) => Ok(running.signal(signal)),
-            Started::Handle(watched) => Ok(watched.handle.send_signal(rt, signal)),
+            Started::Handle(line) => Ok(line.handle.send_signal(rt, signal)),
             Started::Reader(_) => Err(TableError::Text("no signal to a reader handle")),
         }
     }
@@ -117,7 +117,7 @@ pub fn polled<R: Wait, M: Machine>(
     match started {
         Started::Running(running) if call == "finish" => Ok(finished(running, machine)),
         Started::Running(running) => Ok(running.poll()),
-        Started::Handle(watched) => watched.waited(rt, machine.stage().2, call),
+        Started::Handle(line) => line.waited(rt, machine.stage().2, call),
         Started::Reader(handle) => Ok(handle.try_wait()),
     }
 }
@@ -136,10 +136,10 @@ fn finished<M: Machine>(running: &mut Running<M::System>, machine: &M) -> Polled
     answer
 }
 
-impl<S: System> Watched<S> {
+impl<S: System> LineHandle<S> {
     /// Returns the handle.
     pub fn into_handle(self) -> Handle<S> {
-        let Watched { handle, seen } = self;
+        let LineHandle { handle, seen } = self;
         drop(seen);
         handle
     }
@@ -197,7 +197,7 @@ fn push_read<S: System, R: Wait>(
         "read" => {
             return match handle.read_as(buffer, &mut handle.seen()) {
                 Ok(count) => push_prefix(text, buffer, count),
-                Err(error) => write!(text, "{error}. "),
+                Err(error) => push_error(text, &error),
             };
         }
         "own" => handle.read(buffer),

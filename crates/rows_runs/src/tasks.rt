@@ -1,9 +1,9 @@
 //! Expressions of which only so many run at once, and one that is started again each time that it
 //! ends.
-use crate::texts::push_output;
+use crate::texts::{push_error, push_output};
 use duct::{Clock, Error, Output, Pool, System};
 use duct_tasks::{AtFailure, Progress, Restarts, Tasks, keep, run_all};
-use rows_table::{TableError, Tree, duration, first_word, named};
+use rows_table::{TableError, Tree, duration, first_word};
 use std::alloc::{AllocError, Global};
 use std::cell::Cell;
 use std::sync::{Arc, Wait};
@@ -12,16 +12,19 @@ use std::sync::{Arc, Wait};
 fn push_end(text: &mut String, end: &Result<Arc<Output>, Error>) -> Result<(), AllocError> {
     match end {
         Ok(output) => push_output(text, output),
-        Err(error) => write!(text, "{error}. "),
+        Err(error) => push_error(text, error),
     }
 }
 
-/// What becomes of the other tasks once one has failed, by its name.
-const AT_FAILURE: [(&str, AtFailure); 3] = [
-    ("go_on", AtFailure::GoOn),
-    ("wait", AtFailure::Wait),
-    ("stop", AtFailure::Stop),
-];
+/// Returns what becomes of the other tasks once one has failed, by its name.
+fn at_failure(name: &str) -> Result<AtFailure, TableError> {
+    match name {
+        "go_on" => Ok(AtFailure::GoOn),
+        "wait" => Ok(AtFailure::Wait),
+        "stop" => Ok(AtFailure::Stop),
+        _ => Err(TableError::Text("no such name")),
+    }
+}
 
 /// Runs expressions as tasks. The text has the limit, and what becomes of the others once one has
 /// failed. Adds how each ended.
@@ -35,7 +38,7 @@ pub fn run_tasks<S: System>(
     answers: &mut String,
 ) -> Result<(), TableError> {
     let (limit, name) = first_word(text);
-    let (limit, at_failure) = (limit.parse::<usize>()?, named(&AT_FAILURE, name)?);
+    let (limit, at_failure) = (limit.parse::<usize>()?, at_failure(name)?);
     if limit == 0 {
         return Err(TableError::Text("no limit"));
     }
@@ -46,9 +49,14 @@ pub fn run_tasks<S: System>(
     };
     let tell = |_: usize, _: Progress<'_>| {};
     match run_all(tasks, alloc, rt, tell, system, pool) {
-        Ok(ends) => Ok(ends.iter().try_for_each(|end| push_end(answers, end))?),
-        Err(error) => Ok(write!(answers, "{error}. ")?),
+        Ok(ends) => {
+            for end in &ends {
+                push_end(answers, end)?;
+            }
+        }
+        Err(error) => push_error(answers, &error)?,
     }
+    Ok(())
 }
 
 /// Starts an expression again each time that it ends. The text has how often it is started at most,

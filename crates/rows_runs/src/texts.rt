@@ -6,6 +6,11 @@ use std::alloc::{AllocError, Global};
 use std::io::Read;
 use std::sync::{Arc, Wait};
 
+/// Adds the text of an error.
+pub fn push_error(text: &mut String, error: &Error) -> Result<(), AllocError> {
+    write!(text, "{error}. ")
+}
+
 /// Adds the result of a poll: nothing, a status with what was captured, or the text of an error.
 pub fn push_polled(
     text: &mut String,
@@ -14,7 +19,7 @@ pub fn push_polled(
     match polled {
         Ok(None) => text.push_str("nothing. "),
         Ok(Some(output)) => push_output(text, output),
-        Err(error) => write!(text, "{error}. "),
+        Err(error) => push_error(text, error),
     }
 }
 
@@ -22,7 +27,7 @@ pub fn push_polled(
 pub fn push_done(text: &mut String, answer: &Result<(), Error>) -> Result<(), AllocError> {
     match answer {
         Ok(()) => text.push_str("done. "),
-        Err(error) => write!(text, "{error}. "),
+        Err(error) => push_error(text, error),
     }
 }
 
@@ -35,7 +40,7 @@ pub fn push_run(
     match ran {
         Ok(Until::Done(output)) => push_output(text, output),
         Ok(Until::Late(late)) => push_late(text, late),
-        Err(error) => write!(text, "{error}. "),
+        Err(error) => push_error(text, error),
     }
 }
 
@@ -55,7 +60,7 @@ pub fn push_read(
                 None => text.push_str("nothing read. "),
             }
         }
-        Err(error) => write!(text, "{error}. "),
+        Err(error) => push_error(text, error),
     }
 }
 
@@ -64,7 +69,7 @@ fn push_late(text: &mut String, late: &Late) -> Result<(), AllocError> {
     text.push_str("late. ")?;
     match &late.ended {
         Some(Ok(output)) => push_output(text, output)?,
-        Some(Err(error)) => write!(text, "{error}. ")?,
+        Some(Err(error)) => push_error(text, error)?,
         None => text.push_str("not ended. ")?,
     }
     push_done(text, &late.killed)

@@ -6,23 +6,21 @@
 mod bytes;
 mod expressions;
 mod hooks;
+mod journals;
 mod real;
 mod scenes;
 mod stop;
 mod table;
-mod told;
-mod waits;
 mod words;
 
 pub use bytes::{Bytes, LONG};
 pub use expressions::{Lender, Log, Strangers, Tree, Writing, written, written_with};
-pub use real::{Left, Real, count_left, filled};
-pub use scenes::{Answer, Bench, set_system};
-pub use stop::{TableError, is_memory};
-pub use table::{Counts, File, Table, compare};
-pub use told::{
-    children_started, most_held, program, push_journal, push_noted, push_pool, push_trace,
+pub use journals::{
+    children_started, most_held, program_of, push_calls, push_journal, push_pool, push_trace,
     push_turns,
 };
-pub use waits::{heard, until};
-pub use words::{ERROR_KINDS, arguments, duration, first_word, limits, named, texts};
+pub use real::{Real, count_left, filled};
+pub use scenes::{Bench, Named, set_system};
+pub use stop::{TableError, is_memory};
+pub use table::{RowFile, Table, Tally, compare};
+pub use words::{arguments, duration, error_kind, first_word, limits, texts};

@@ -18,17 +18,10 @@ pub trait Real: Platform + Threads + Clock + AllocGlobal + Clone + Drop {}
 
 impl<R: Platform + Threads + Clock + AllocGlobal + Clone + Drop> Real for R {}
 
-/// How many file descriptors are open, and how many children there are, including those that have
-/// ended and are not reaped yet.
-#[derive(Clone, Copy, Debug, PartialEq, Eq)]
-pub struct Left {
-    pub descriptors: usize,
-    pub children: usize,
-}
-
-/// Counts both, with the children of every thread. Counting itself needs a file descriptor, and
-/// never two at a time. Fails if `/proc` can't be read, or on an allocation failure.
-pub fn count_left<R: Files + AllocGlobal + Clone>(rt: &R) -> io::Result<Left> {
+/// Returns how many file descriptors are open, and how many children every thread has, including
+/// those that have ended and are not reaped yet. Counting itself needs a file descriptor, and never
+/// two at a time. Fails if `/proc` can't be read, or on an allocation failure.
+pub fn count_left<R: Files + AllocGlobal + Clone>(rt: &R) -> io::Result<(usize, usize)> {
     let descriptors = open_descriptors(rt)?;
     let mut threads = Vec::new(rt.alloc());
     for thread in fs::read_dir(rt, "/proc/self/task")? {
@@ -38,10 +31,7 @@ pub fn count_left<R: Files + AllocGlobal + Clone>(rt: &R) -> io::Result<Left> {
     for thread in threads {
         children = children.saturating_add(children_of(rt, thread.file_name())?);
     }
-    Ok(Left {
-        descriptors,
-        children,
-    })
+    Ok((descriptors, children))
 }
 
 /// How many children a thread has started, or 0 if the thread has ended, because its children then
@@ -65,9 +55,9 @@ pub fn open_descriptors<R: Files + Alloc + Clone>(rt: &R) -> io::Result<usize> {
     Ok(count)
 }
 
-/// Returns the text of a file of rows for this process: `{place}`, `{id}` and `{nul}` in it are
-/// replaced (`docs/ROWS.md`). Fails if the folder for temporary files or the id of the process
-/// can't be determined, or on an allocation failure.
+/// Returns the text of a file of rows for this process: `{place}` and `{nul}` in it are replaced
+/// (`docs/ROWS.md`). Fails if the folder for temporary files or the id of the process can't be
+/// determined, or on an allocation failure.
 pub fn filled<R: Files + Env + AllocGlobal>(rt: &R, text: &str) -> io::Result<String> {
     let alloc = rt.alloc();
     let folder = env::temp_dir(rt)?.into_string();
@@ -75,6 +65,5 @@ pub fn filled<R: Files + Env + AllocGlobal>(rt: &R, text: &str) -> io::Result<St
     let (_, id) = process.as_str().rsplit_once('/').unwrap_or(("", ""));
     let place = format!(in alloc; "{folder}/duct_host-{id}-")?;
     let text = text.replace(alloc, "{place}", place.as_str())?;
-    let text = text.replace(alloc, "{id}", id)?;
     Ok(text.replace(alloc, "{nul}", "\0")?)
 }

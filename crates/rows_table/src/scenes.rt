@@ -1,6 +1,6 @@
 //! What a row sets up before a start, over the scripted system (`docs/ROWS.md`).
 use crate::stop::TableError;
-use crate::words::{ERROR_KINDS, fault, first_word, named, pairs};
+use crate::words::{error_kind, fault, first_word, pairs};
 use duct::{ExitStatus, Fault, Pool, Said};
 use duct_base::pool::{place_new, pool_take, reservation_new};
 use duct_script::{
@@ -103,7 +103,7 @@ fn set_next(alloc: Global, sys: &mut Script, key: &str, text: &str) -> Result<()
             let (number, fault) = (number.parse()?, fault(kind)?);
             match name {
                 "any" => sys.refuse(number, fault)?,
-                name => sys.refuse_sort(named(&SORTS, name)?, number, fault)?,
+                name => sys.refuse_sort(sort(name)?, number, fault)?,
             }
         }
         "children" => sys.child(child_script(alloc, text)?)?,
@@ -113,20 +113,23 @@ fn set_next(alloc: Global, sys: &mut Script, key: &str, text: &str) -> Result<()
     Ok(())
 }
 
-/// The sorts of requests by their names.
-const SORTS: [(&str, Sort); 11] = [
-    ("Environment", Sort::Environment),
-    ("Pipe", Sort::Pipe),
-    ("OpenRead", Sort::OpenRead),
-    ("Create", Sort::Create),
-    ("Duplicate", Sort::Duplicate),
-    ("Parent", Sort::Parent),
-    ("Canonicalize", Sort::Canonicalize),
-    ("Spawn", Sort::Spawn),
-    ("Feed", Sort::Feed),
-    ("Drain", Sort::Drain),
-    ("Close", Sort::Close),
-];
+/// Returns the sort of requests with this name.
+fn sort(name: &str) -> Result<Sort, TableError> {
+    match name {
+        "Environment" => Ok(Sort::Environment),
+        "Pipe" => Ok(Sort::Pipe),
+        "OpenRead" => Ok(Sort::OpenRead),
+        "Create" => Ok(Sort::Create),
+        "Duplicate" => Ok(Sort::Duplicate),
+        "Parent" => Ok(Sort::Parent),
+        "Canonicalize" => Ok(Sort::Canonicalize),
+        "Spawn" => Ok(Sort::Spawn),
+        "Feed" => Ok(Sort::Feed),
+        "Drain" => Ok(Sort::Drain),
+        "Close" => Ok(Sort::Close),
+        _ => Err(TableError::Text("no such sort of requests")),
+    }
+}
 
 fn child_script(alloc: Global, child: &str) -> Result<ChildScript, TableError> {
     let (polls, orders) = child.split_once('/').unwrap_or((child, ""));
@@ -139,13 +142,13 @@ fn child_script(alloc: Global, child: &str) -> Result<ChildScript, TableError> {
 }
 
 /// A result that a text names.
-pub trait Answer: Drop + Sized {
+pub trait Named: Drop + Sized {
     /// Returns the result with this name. Fails if there is none, or on an allocation failure.
     fn named(alloc: Global, text: &str) -> Result<Self, TableError>;
 }
 
 /// `running`, `code 0`, `signal 9`, or the kind of a fault.
-impl Answer for PollAnswer {
+impl Named for PollAnswer {
     fn named(_alloc: Global, text: &str) -> Result<PollAnswer, TableError> {
         match first_word(text) {
             ("running", _) => Ok(PollAnswer::Running),
@@ -157,7 +160,7 @@ impl Answer for PollAnswer {
 }
 
 /// `done`, or the kind of a fault.
-impl Answer for Result<(), Fault> {
+impl Named for Result<(), Fault> {
     fn named(_alloc: Global, text: &str) -> Result<Result<(), Fault>, TableError> {
         if text == "done" {
             return Ok(Ok(()));
@@ -167,7 +170,7 @@ impl Answer for Result<(), Fault> {
 }
 
 /// `running`, `done`, or the kind of a fault.
-impl Answer for Said<()> {
+impl Named for Said<()> {
     fn named(_alloc: Global, text: &str) -> Result<Said<()>, TableError> {
         match text {
             "running" => Ok(Said::Running),
@@ -178,7 +181,7 @@ impl Answer for Said<()> {
 }
 
 /// `running`, `done abc`, or the kind of a fault.
-impl Answer for Said<Arc<Vec<u8>>> {
+impl Named for Said<Arc<Vec<u8>>> {
     fn named(alloc: Global, text: &str) -> Result<Said<Arc<Vec<u8>>>, TableError> {
         match first_word(text) {
             ("running", _) => Ok(Said::Running),
@@ -193,7 +196,7 @@ impl Answer for Said<Arc<Vec<u8>>> {
 
 /// Returns the results of a text, which are separated by commas. Fails if there is no such result,
 /// or on an allocation failure.
-fn answers<A: Answer>(alloc: Global, text: &str) -> Result<Vec<A>, TableError> {
+fn answers<A: Named>(alloc: Global, text: &str) -> Result<Vec<A>, TableError> {
     let mut answers = Vec::new(alloc);
     for name in text.split_terminator(',') {
         answers.push(A::named(alloc, name.trim())?)?;
@@ -205,7 +208,7 @@ fn reader_script(alloc: Global, pieces: &str) -> Result<ReaderScript, TableError
     let mut script = ReaderScript::empty(alloc);
     for piece in pieces.split_terminator(',') {
         let piece = piece.trim();
-        if let Ok(kind) = named(&ERROR_KINDS, piece) {
+        if let Ok(kind) = error_kind(piece) {
             script.steps.push_back(ReadStep::Fault(kind))?;
             continue;
         }

@@ -16,14 +16,14 @@ pub trait Table<'t>: Drop {
 
 /// How many texts were found, and how many of them differ or stopped a row.
 #[derive(Clone, Copy, Default)]
-pub struct Counts {
+pub struct Tally {
     pub compared: u64,
     pub differing: u64,
 }
 
 /// A file of rows.
 #[derive(Clone, Copy)]
-pub struct File<'t> {
+pub struct RowFile<'t> {
     /// The name of the file in the output.
     pub name: &'t str,
     /// The whole text of the file.
@@ -39,10 +39,10 @@ pub struct File<'t> {
 pub fn compare<'t, T: Table<'t>, W: Write>(
     alloc: Global,
     table: &mut T,
-    file: File<'t>,
+    file: RowFile<'t>,
     out: &mut W,
-) -> io::Result<Counts> {
-    let mut counts = Counts::default();
+) -> io::Result<Tally> {
+    let mut counts = Tally::default();
     let (mut number, mut is_over) = (1_u64, false);
     let mut found = String::new(alloc);
     for line in file.text.lines().chain([""]).skip(1) {
@@ -70,7 +70,7 @@ pub fn compare<'t, T: Table<'t>, W: Write>(
 /// Writes what was found, where it is told or differs, or why the row stops. Returns whether the
 /// row goes on.
 fn goes_on<W: Write>(
-    file: File,
+    file: RowFile,
     number: u64,
     line: &str,
     read: &Result<bool, TableError>,
@@ -78,33 +78,17 @@ fn goes_on<W: Write>(
     out: &mut W,
 ) -> io::Result<bool> {
     let (key, wanted) = line.split_once(':').unwrap_or((line, ""));
+    let (name, wanted) = (file.name, wanted.trim());
     match read {
-        Ok(false) => Ok(true),
-        Ok(true) if file.is_told => writeln!(out, "{number} {key}: {found}").map(|()| true),
-        Ok(true) if found == wanted.trim() => Ok(true),
-        Ok(true) => write_difference(file.name, number, line, found, out).map(|()| false),
-        Err(stop) => write_stop(file, number, stop, out).map(|()| false),
+        Ok(false) => return Ok(true),
+        Ok(true) if file.is_told => {
+            writeln!(out, "{number} {key}: {found}")?;
+            return Ok(true);
+        }
+        Ok(true) if found == wanted => return Ok(true),
+        Ok(true) => writeln!(out, "{name}:{number}: {key}: {found}, not {wanted}")?,
+        Err(stop) if file.is_told => writeln!(out, "{number} stops: {stop}")?,
+        Err(stop) => writeln!(out, "{name}:{number}: {stop}")?,
     }
-}
-
-/// Writes what was found in a line, and what was wanted.
-fn write_difference<W: Write>(
-    name: &str,
-    number: u64,
-    line: &str,
-    found: &str,
-    out: &mut W,
-) -> io::Result<()> {
-    let (key, wanted) = line.split_once(':').unwrap_or((line, ""));
-    let wanted = wanted.trim();
-    writeln!(out, "{name}:{number}: {key}: {found}, not {wanted}")
-}
-
-/// Writes why a row stops.
-fn write_stop<W: Write>(file: File, number: u64, stop: &TableError, out: &mut W) -> io::Result<()> {
-    if file.is_told {
-        writeln!(out, "{number} stops: {stop}")
-    } else {
-        writeln!(out, "{}:{number}: {stop}", file.name)
-    }
+    Ok(false)
 }

@@ -44,51 +44,48 @@ pub fn texts(alloc: Global, text: &str, between: char) -> Result<Arc<Vec<String>
 /// Returns the pairs of names and values in a text: `A:1,B:2`. Pieces without a colon are skipped.
 /// Fails on an allocation failure.
 pub fn pairs(alloc: Global, text: &str) -> Result<Vec<(&str, &str)>, AllocError> {
-    text.split(',')
-        .filter_map(|piece| piece.split_once(':'))
-        .collect(alloc)
-}
-
-/// Returns the value with this name. Fails if there is none.
-pub fn named<T: Copy>(values: &[(&str, T)], name: &str) -> Result<T, TableError> {
-    for (known, value) in values {
-        if *known == name {
-            return Ok(*value);
+    let mut pairs = Vec::new(alloc);
+    for piece in text.split(',') {
+        if let Some(pair) = piece.split_once(':') {
+            pairs.push(pair)?;
         }
     }
-    Err(TableError::Text("no such name"))
+    Ok(pairs)
 }
+
+/// Why a name is refused.
+const UNKNOWN: TableError = TableError::Text("no such name");
 
 /// Returns the stream with this name: `in`, `out` or `err`. Fails for any other name.
 pub fn stream(name: &str) -> Result<Stream, TableError> {
-    named(
-        &[
-            ("in", Stream::In),
-            ("out", Stream::Out),
-            ("err", Stream::Err),
-        ],
-        name,
-    )
+    match name {
+        "in" => Ok(Stream::In),
+        "out" => Ok(Stream::Out),
+        "err" => Ok(Stream::Err),
+        _ => Err(UNKNOWN),
+    }
 }
 
 /// Returns a fault of the kind with this name. Fails if there is no such kind.
 pub fn fault(kind: &str) -> Result<Fault, TableError> {
-    Ok(Fault::from(io::Error::from(named(&ERROR_KINDS, kind)?)))
+    Ok(Fault::from(io::Error::from(error_kind(kind)?)))
 }
 
-/// The kinds of errors by their names.
-pub const ERROR_KINDS: [(&str, ErrorKind); 10] = [
-    ("NotFound", ErrorKind::NotFound),
-    ("PermissionDenied", ErrorKind::PermissionDenied),
-    ("BrokenPipe", ErrorKind::BrokenPipe),
-    ("WriteZero", ErrorKind::WriteZero),
-    ("InvalidInput", ErrorKind::InvalidInput),
-    ("Unsupported", ErrorKind::Unsupported),
-    ("OutOfMemory", ErrorKind::OutOfMemory),
-    ("Interrupted", ErrorKind::Interrupted),
-    ("TimedOut", ErrorKind::TimedOut),
-    ("Other", ErrorKind::Other),
-];
+/// Returns the kind of errors with this name. Fails if there is none.
+pub fn error_kind(name: &str) -> Result<ErrorKind, TableError> {
+    match name {
+        "NotFound" => Ok(ErrorKind::NotFound),
+        "PermissionDenied" => Ok(ErrorKind::PermissionDenied),
+        "BrokenPipe" => Ok(ErrorKind::BrokenPipe),
+        "WriteZero" => Ok(ErrorKind::WriteZero),
+        "InvalidInput" => Ok(ErrorKind::InvalidInput),
+        "Unsupported" => Ok(ErrorKind::Unsupported),
+        "OutOfMemory" => Ok(ErrorKind::OutOfMemory),
+        "Interrupted" => Ok(ErrorKind::Interrupted),
+        "Other" => Ok(ErrorKind::Other),
+        _ => Err(UNKNOWN),
+    }
+}
 
 /// Reads a duration: `0`, `5s`, `1ns`, or `most` for the greatest.
 pub fn duration(text: &str) -> Result<Duration, TableError> {

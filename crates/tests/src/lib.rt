@@ -13,4 +13,6 @@ mod starts;
 #[cfg(test)]
 mod threads;
 #[cfg(test)]
+mod waits;
+#[cfg(test)]
 mod workers;

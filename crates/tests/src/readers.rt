@@ -1,8 +1,9 @@
 //! Tests of threads that share a reader handle. A thread that waits for another one checks a
 //! limited number of times, and then goes on.
+use crate::waits::until;
 use duct::ReaderHandle;
 use duct_script::{Gate, ReaderScript, Script};
-use rows_table::{Bench, TableError, until, written};
+use rows_table::{Bench, TableError, written};
 use std::alloc::{AllocError, Global};
 use std::sync::Wait;
 use std::test::Fail;

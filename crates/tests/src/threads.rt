@@ -2,10 +2,11 @@
 //! limited number of times, and then goes on.
 ghost use Rattle.std.specs.Prelude.{◌≡◌};
 
+use crate::waits::until;
 use duct::unix::HandleExt;
 use duct::{Clock, Error, ExitStatus, Handle, Output, Seen};
 use duct_script::{Answers, Call, CallLog, ChildScript, Gate, PollAnswer, Script};
-use rows_table::{Bench, TableError, push_turns, set_system, until, written};
+use rows_table::{Bench, TableError, push_turns, set_system, written};
 use std::alloc::{AllocError, Global};
 use std::sync::{Arc, Wait};
 use std::test::Fail;

@@ -1,10 +1,11 @@
 //! Tests of workers on their threads: they run beside their caller, and each later poll returns the
 //! same result.
+use crate::waits::{heard, until};
 use duct_base::spawn::{spawn_drain, spawn_feed};
 use duct_base::system::{Job, Numbered, Said, System};
 use duct_base::worker::Worker;
 use duct_script::{Gate, Gated, Script};
-use rows_table::{TableError, heard, set_system, until};
+use rows_table::{TableError, set_system};
 use std::alloc::Global;
 use std::rt::Clock;
 use std::sync::Arc;

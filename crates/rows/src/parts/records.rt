@@ -3,9 +3,7 @@ use crate::parts::Parts;
 use duct::{Entry, Error, System};
 use duct_plan::{PlanDot, PlanText, plan, print};
 use duct_program::{Usage, line};
-use duct_replay::{
-    LineRefusal, Refusal, ReplayEnd, Values, Verdict, journal_text, judge, read_journal,
-};
+use duct_replay::{LineRefusal, Refusal, ReplayEnd, Verdict, judge, read_journal};
 use duct_shell::RequestText;
 use rows_table::{TableError, Tree, arguments, written};
 
@@ -19,24 +17,9 @@ pub fn push(text: &mut String, row: &Parts, key: &str) -> Result<(), TableError>
     }
     match read_journal(row.alloc, record.as_str()) {
         Ok(entries) if key == "judged" => push_judged(text, row, entries.as_slice()),
-        Ok(entries) if key == "read" => Ok(write!(text, "{}", entries.len())?),
-        Ok(entries) => push_written(text, row, entries.as_slice(), record.as_str()),
+        Ok(entries) => Ok(write!(text, "{}", entries.len())?),
         Err(refused) => push_refused(text, &refused),
     }
-}
-
-/// Adds the text of these entries, or that it is the same as this one.
-fn push_written(
-    text: &mut String,
-    row: &Parts,
-    entries: &[Entry],
-    record: &str,
-) -> Result<(), TableError> {
-    let again = journal_text(row.alloc, entries, Values::Shown)?;
-    if again.as_str() == record {
-        return Ok(text.push_str("same")?);
-    }
-    Ok(text.push_str(again.as_str())?)
 }
 
 /// Adds the verdict whether a start of the arguments of a row has these entries, and the request

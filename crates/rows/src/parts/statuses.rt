@@ -3,7 +3,7 @@ use crate::parts::Parts;
 use duct_base::status::{Core, Drains, Event, Reply, Shape, Word};
 use duct_base::system::Side;
 use duct_script::PollAnswer;
-use rows_table::{Answer, TableError, first_word, texts};
+use rows_table::{Named, TableError, first_word, texts};
 use std::alloc::{AllocError, Global};
 
 /// Adds the replies to the events of a row. Each is followed by that in one run, if it differs.
@@ -74,11 +74,11 @@ fn event(alloc: Global, text: &str) -> Result<Event, TableError> {
     let (source, word) = first_word(text);
     match source {
         "conclude" => Ok(Event::Conclude),
-        "out" => Ok(Event::Drain(Side::Out, Answer::named(alloc, word)?)),
-        "err" => Ok(Event::Drain(Side::Err, Answer::named(alloc, word)?)),
+        "out" => Ok(Event::Drain(Side::Out, Named::named(alloc, word)?)),
+        "err" => Ok(Event::Drain(Side::Err, Named::named(alloc, word)?)),
         "input" => {
             let (at, word) = first_word(word);
-            Ok(Event::Input(at.parse()?, Answer::named(alloc, word)?))
+            Ok(Event::Input(at.parse()?, Named::named(alloc, word)?))
         }
         at => {
             let word = match PollAnswer::named(alloc, word)? {

@@ -2,7 +2,7 @@
 use crate::parts::Parts;
 use duct_base::system::{Fault, Kind};
 use duct_base::transfer::{drain, feed};
-use rows_table::{ERROR_KINDS, TableError, first_word, named};
+use rows_table::{TableError, error_kind, first_word};
 use std::alloc::{AllocError, Global};
 use std::io::{self, ErrorKind, Read, Write};
 
@@ -10,7 +10,7 @@ use std::io::{self, ErrorKind, Read, Write};
 /// are many. Fails if other bytes were moved.
 pub fn push(text: &mut String, row: &Parts, call: &str, script: &str) -> Result<(), TableError> {
     let all = all(row.alloc, row.text("bytes").parse().unwrap_or(3))?;
-    let mut stream = Stream {
+    let mut stream = WordStream {
         script,
         taken: Vec::new(row.alloc),
         left: all.as_slice(),
@@ -20,7 +20,7 @@ pub fn push(text: &mut String, row: &Parts, call: &str, script: &str) -> Result<
 }
 
 /// Feeds all bytes to a stream, or drains it, and keeps in it what it read.
-fn moved_by(alloc: Global, call: &str, stream: &mut Stream, all: &[u8]) -> Result<(), Fault> {
+fn moved_by(alloc: Global, call: &str, stream: &mut WordStream, all: &[u8]) -> Result<(), Fault> {
     if call == "fed" {
         return feed(stream, all);
     }
@@ -61,7 +61,7 @@ fn all(alloc: Global, count: usize) -> Result<Vec<u8>, AllocError> {
 
 /// A writer, and a reader.
 #[derive(Drop)]
-struct Stream<'a> {
+struct WordStream<'a> {
     /// The words of the calls that follow.
     script: &'a str,
     /// The bytes that were written.
@@ -70,7 +70,7 @@ struct Stream<'a> {
     left: &'a [u8],
 }
 
-impl Stream<'_> {
+impl WordStream<'_> {
     /// Returns the most bytes that the next call moves, or its error.
     fn next(&mut self) -> io::Result<usize> {
         let (word, rest) = first_word(self.script);
@@ -78,12 +78,12 @@ impl Stream<'_> {
         match word.parse() {
             Ok(count) => Ok(count),
             Err(_) if word.is_empty() => Ok(usize::MAX),
-            Err(_) => Err(io::Error::from(named(&ERROR_KINDS, word).unwrap_or(ErrorKind::Other))),
+            Err(_) => Err(io::Error::from(error_kind(word).unwrap_or(ErrorKind::Other))),
         }
     }
 }
 
-impl Write for Stream<'_> {
+impl Write for WordStream<'_> {
     fn write(&mut self, buf: &[u8]) -> io::Result<usize> {
         let count = self.next()?.min(buf.len());
         self.taken.extend_from_slice(&buf[..count])?;
@@ -95,7 +95,7 @@ impl Write for Stream<'_> {
     }
 }
 
-impl Read for Stream<'_> {
+impl Read for WordStream<'_> {
     fn read(&mut self, buf: &mut [u8]) -> io::Result<usize> {
         let count = self.next()?.min(buf.len());
         self.left.read(&mut buf[..count])

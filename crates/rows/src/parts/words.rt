@@ -22,14 +22,14 @@ pub fn push(text: &mut String, row: &Parts, key: &str) -> Result<(), TableError>
 }
 
 /// Returns the text of a row: the last line `text`, with newlines and tabs.
-fn told(row: &Parts) -> Result<String, AllocError> {
+fn text_of(row: &Parts) -> Result<String, AllocError> {
     let lines = row.text("text").replace(row.alloc, "␤", "\n")?;
     lines.as_str().replace(row.alloc, "␉", "\t")
 }
 
 /// Adds the tokens of the text of a row, or why it has none.
 fn push_tokens(text: &mut String, row: &Parts) -> Result<(), TableError> {
-    match split(row.alloc, told(row)?.as_str()) {
+    match split(row.alloc, text_of(row)?.as_str()) {
         Ok(tokens) => {
             for token in &tokens {
                 match token {
@@ -49,7 +49,7 @@ fn push_tokens(text: &mut String, row: &Parts) -> Result<(), TableError> {
 
 /// Adds the expression of the text of a row, or why it has none.
 fn push_meant(text: &mut String, row: &Parts) -> Result<(), TableError> {
-    let meant: Result<Tree<ScriptEnd>, LineError> = line(row.alloc, told(row)?.as_str());
+    let meant: Result<Tree<ScriptEnd>, LineError> = line(row.alloc, text_of(row)?.as_str());
     match meant {
         Ok(tree) => write!(text, "{tree:?}")?,
         Err(LineError::Split(SplitError::Memory) | LineError::Usage(Usage::Memory)) => {
@@ -64,7 +64,7 @@ fn push_meant(text: &mut String, row: &Parts) -> Result<(), TableError> {
 fn push_shell_text(text: &mut String, row: &Parts) -> Result<(), TableError> {
     let tree = written(row.alloc, row.text("expression"))?;
     match shell_text(row.alloc, &tree) {
-        Ok(told) => text.push_str(told.as_str())?,
+        Ok(shell) => text.push_str(shell.as_str())?,
         Err(ShellTextError::Memory) => return Err(TableError::Error(Error::Memory)),
         Err(error) => write!(text, "{error}")?,
     }

@@ -1,6 +1,6 @@
 //! Waits for tests. Each wait ends, even if what it waits for never happens.
-use crate::stop::TableError;
 use duct_base::system::{Fault, Job, Said};
+use rows_table::TableError;
 use std::rt::Clock;
 use std::thread;
 use std::time::Duration;

@@ -9,7 +9,7 @@ use std::alloc::{AllocError, Global};
 use std::slice;
 
 /// Adds a comma and a space, unless the text is empty.
-fn begin(text: &mut String) -> Result<(), AllocError> {
+fn push_comma(text: &mut String) -> Result<(), AllocError> {
     if text.is_empty() {
         Ok(())
     } else {
@@ -59,7 +59,7 @@ struct Tracing<'a> {
 
 impl Tracing<'_> {
     fn push(&mut self, entry: &Entry) -> Result<(), TableError> {
-        begin(self.text)?;
+        push_comma(self.text)?;
         self.push_request(entry)?;
         match entry.fault() {
             Some(fault) => Ok(write!(self.text, " refused={:?}", fault.kind)?),
@@ -185,7 +185,7 @@ pub fn push_turns(text: &mut String, calls: &CallLog) -> Result<(), AllocError> 
 
 /// Adds the calls in the log from the first of two indices up to the second, in order and without
 /// the requests `Duplicate`, `Parent` and `Close`. Fails on an allocation failure.
-pub fn push_noted(text: &mut String, bench: &Bench, from: u64, to: u64) -> Result<(), AllocError> {
+pub fn push_calls(text: &mut String, bench: &Bench, from: u64, to: u64) -> Result<(), AllocError> {
     for place in from..to {
         match bench.calls.get(place as usize) {
             None | Some(Call::Request(Sort::Duplicate | Sort::Parent | Sort::Close)) => {}
@@ -196,28 +196,31 @@ pub fn push_noted(text: &mut String, bench: &Bench, from: u64, to: u64) -> Resul
 }
 
 fn push_call(text: &mut String, entries: &[Entry], call: Call) -> Result<(), AllocError> {
-    begin(text)?;
+    push_comma(text)?;
     let (word, child) = match call {
         Call::Request(sort) => return write!(text, "{sort:?}"),
         Call::Hook(label) => return write!(text, "hook {label}"),
         Call::Poll(child) => ("poll", child),
         Call::Order(child) => ("order", child),
-        Call::PollFeed(end) => return write!(text, "poll feed {}", fed(entries, end)),
+        Call::PollFeed(end) => return write!(text, "poll feed {}", bytes_of_feed(entries, end)),
         Call::PollDrain(end) => return write!(text, "poll drain {}", drain_place(entries, end)),
     };
-    match program(entries, child) {
+    match program_of(entries, child) {
         Some(program) if child >= FIRST => write!(text, "{word} {program}"),
         _ => write!(text, "{word} {child}"),
     }
 }
 
 /// Returns the bytes of the feed of the end with this number, as a text.
-fn fed(entries: &[Entry], feed: u64) -> &str {
-    let bytes = entries.iter().find_map(|entry| match entry {
-        Entry::Feed(end, bytes, Ok(())) if *end == feed => Some(bytes.as_slice()),
-        _ => None,
-    });
-    str::from_utf8(bytes.unwrap_or(b"")).unwrap_or("?")
+fn bytes_of_feed(entries: &[Entry], feed: u64) -> &str {
+    for entry in entries {
+        if let Entry::Feed(end, bytes, Ok(())) = entry {
+            if *end == feed {
+                return str::from_utf8(bytes.as_slice()).unwrap_or("?");
+            }
+        }
+    }
+    ""
 }
 
 /// Returns the place of a drain among those that were started.
@@ -235,11 +238,13 @@ fn drain_place(entries: &[Entry], drain: u64) -> usize {
 }
 
 /// Returns the program of the child with this number, if the journal has its spawn.
-pub fn program(entries: &[Entry], child: u64) -> Option<&str> {
-    entries.iter().find_map(|entry| match entry {
-        Entry::Spawn(spec, _, Ok(number)) if *number == child => {
-            spec.words().first().map(String::as_str)
+pub fn program_of(entries: &[Entry], child: u64) -> Option<&str> {
+    for entry in entries {
+        if let Entry::Spawn(spec, _, Ok(number)) = entry {
+            if *number == child {
+                return spec.words().first().map(String::as_str);
+            }
         }
-        _ => None,
-    })
+    }
+    None
 }
