@@ -274,6 +274,15 @@ fn passes<R: Wait + Threads + Sync>(
     Ok(well && before.contains('p') && behind.contains('p'))
 }
 
+/// Whether a kill goes through beside waits of each kind that blocks.
+fn all_pass<R: Wait + Threads + Sync>(rt: &R, alloc: Global) -> Result<bool, TableError> {
+    Ok(
+        passes(rt, alloc, Waiting::End)?
+            && passes(rt, alloc, Waiting::Deadline)?
+            && passes(rt, alloc, Waiting::Timeout)?,
+    )
+}
+
 /// Whether waits with a token that knows the output return it while a kill holds the lock.
 fn knows_beside_a_kill<R: Wait + Threads + Sync>(
     rt: &R,
@@ -370,9 +379,7 @@ fn tokens_agree<R: Wait + Threads + Sync>(
 /// return the same output.
 #[test]
 fn threads_wait_on_a_handle(rt: HostRuntime) -> Result<(), Fail> {
-    for waiting in [Waiting::End, Waiting::Deadline, Waiting::Timeout] {
-        assert!(rt; passes(&rt, rt.alloc(), waiting)?);
-    }
+    assert!(rt; all_pass(&rt, rt.alloc())?);
     assert!(rt; knows_beside_a_kill(&rt, rt.alloc())?);
     assert_eq!(rt; tokens_agree(&rt, rt.alloc())?, ((true, true, true), true));
     Ok(())
