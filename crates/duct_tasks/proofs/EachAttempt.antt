@@ -1,5 +1,7 @@
 -- What holds of each attempt holds of attempts.
-use Rattle.std.proofs.Common.{ℕ, List, [], ◌∷◌, Bool, Ok, Err, IfOk, IfErr, subst}
+use Rattle.std.specs.Prelude.{false, ◌⊎◌}
+use Rattle.std.proofs.Common.{ℕ, ◌+◌, ◌≤◌, ◌≡◌, arith, List, [], ◌∷◌, ◌++◌, length, length-append, Bool, Ok, Err, IfOk, IfErr, inr, refl, subst, sym}
+use Rattle.std.proofs.lemmas.Fn.{FoldsTo-push}
 use Rattle.std.specs.Borrow.{MutBor}
 use Rattle.std.specs.Fn.{Shared}
 use Rattle.std.specs.List.{FoldsTo}
@@ -39,3 +41,45 @@ pub by_result : {T E : Type 0} (P : Result T E → Type 0) (r : Result T E) → 
     → IfErr r (λ e. P (Err e)) → P r
 by_result P (Ok value) ok err = ok
 by_result P (Err e) ok err = err
+
+module _ {P T E : Type 0} (attempt : P → Result T E → P → Type 0) (tells : E → Bool → Type 0) (before : P) where
+  -- all attempts before the next, which is this one by its number, failed with an error that was called transient
+  pub record SoFar (next : ℕ) (between : P) : Type 0 where
+    pub errors : List E
+    pub count : length errors + 1 ≡ next
+    pub failed : FoldsTo (FailsFor attempt tells) before errors between
+
+module _ {P T E : Type 0} {attempt : P → Result T E → P → Type 0} {tells : E → Bool → Type 0} {before : P} where
+  pub first : SoFar attempt tells before 1 before
+  first = record { errors = []; count = refl; failed = refl }
+
+  module _ {next : ℕ} {between : P} (so_far : SoFar attempt tells before next between) where
+    -- so did the next
+    pub failed : (later : ℕ) → later ≡ next + 1 → (e : E) {after : P} → FailsFor attempt tells between e after
+        → SoFar attempt tells before later after
+    failed later is e {after} fails = record {
+      errors = so_far.errors ++ e ∷ [];
+      count = omega (arith, is, so_far.count, length-append so_far.errors (e ∷ []));
+      failed = FoldsTo-push (FailsFor attempt tells) before so_far.errors between e after so_far.failed fails;
+    }
+
+    -- the next is the last
+    pub ends : (most : ℕ) → next ≤ most → {result : Result T E} {after : P} → attempt between result after
+        → IfErr result (λ e. tells e false ⊎ (next ≡ most)) → Attempts attempt tells most before result after
+    ends most few {result} last over = record {
+      errors = so_far.errors;
+      between = between;
+      few = omega (arith, so_far.count, few);
+      failed = so_far.failed;
+      last = last;
+      over = subst (λ (n : ℕ). IfErr result (λ e. tells e false ⊎ (n ≡ most))) (sym so_far.count) over;
+    }
+
+    at_most : (most : ℕ) (result : Result T E) → next ≡ most → IfErr result (λ e. tells e false ⊎ (next ≡ most))
+    at_most most (Ok value) is = tt
+    at_most most (Err e) is = inr is
+
+    -- the next is the last that is allowed
+    pub gives_up : (most : ℕ) → next ≡ most → (result : Result T E) {after : P} → attempt between result after
+        → Attempts attempt tells most before result after
+    gives_up most is result did = ends most (omega (arith, is)) did (at_most most result is)

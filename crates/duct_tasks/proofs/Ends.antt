@@ -13,6 +13,7 @@ use Rattle.duct.specs.declared.expression.Expression.{Expression}
 use Rattle.duct_tasks.specs.Turns.{AreEnds, End, EndsWith, Goes, GoesOn, InTurn, RanAll, Turn, failed_of}
 use Rattle.duct_tasks.specs.declared.many.AtFailure.{AtFailure}
 use Rattle.duct_tasks.specs.declared.many.AtFailure.TheVariants.{GoOn, Wait, Stop}
+use Rattle.duct_tasks.specs.declared.many.Tasks.{Tasks}
 use Rattle.duct_tasks.specs.declared.task.Task.{Task}
 use Rattle.duct_tasks.specs.declared.task.Task.TheVariants.{Ended}
 
@@ -65,18 +66,19 @@ all_ended views allows refuses (root ∷ roots) (end ∷ ends) given sys left tu
     (turns.0, turns.1, turns.2, turns.3, turns.4, all_ended views allows refuses roots ends turns.3 turns.1 left turns.5)
 
 module _ {S E C F D : Type 0} {views : SystemViews S E C F D (Unit {0}) Bytes} {H : Type 0}
-    {allows : Allows H} {refuses : Refuses H} {roots : List (Expression E H)} {tasks : List (Task (RunningView C F D))}
-    {sys left : S} where
+    {allows : Allows H} {refuses : Refuses H} {tasks : List (Task (RunningView C F D))} {sys left : S} where
   -- no more tasks were started than there are
-  pub few_started : {had has : ℕ} → Goes views allows refuses roots [] tasks sys left had has → length tasks ≤ length roots
-  few_started goes = few_turns (Turn views allows refuses) roots tasks (0 + goes.given) sys left (goes.turns sys 0 (refl, refl))
+  pub few_started : {roots : List (Expression E H)} {had has : ℕ} → Goes views allows refuses roots [] tasks sys left had has
+      → length tasks ≤ length roots
+  few_started {roots} goes = few_turns (Turn views allows refuses) roots tasks (0 + goes.given) sys left (goes.turns sys 0 (refl, refl))
 
-  pub ran_all : (at_failure : AtFailure) (ends : List End) (failed : Bool) (pool kept : PoolView C)
-      → Goes views allows refuses roots [] tasks sys left pool.given kept.given → AreEnds tasks ends
+  pub ran_all : (given : Tasks E H) (ends : List End) (failed : Bool) (pool kept : PoolView C)
+      → Goes views allows refuses given.all.now [] tasks sys left pool.given kept.given → AreEnds tasks ends
       → (failed ≡ true → 0 < sum_by failed_of tasks)
-      → (length roots ≤ length tasks) ⊎ (GoesOn at_failure failed → ⊥)
-      → RanAll views allows refuses roots at_failure ends sys left pool kept
-  ran_all at_failure ends failed pool kept goes are fails_if over =
+      → (length given.all.now ≤ length tasks) ⊎ (GoesOn given.at_failure failed → ⊥)
+      → RanAll views allows refuses given (sys, pool) ends (left, kept)
+  ran_all given ends failed pool kept goes are fails_if over =
+      let roots : List (Expression E H) = given.all.now in
       let turns : InTurn (Turn views allows refuses) roots (map (λ e. Ended e) ends) (0 + goes.given) sys left =
       subst (λ (ts : List (Task (RunningView C F D))). InTurn (Turn views allows refuses) roots ts (0 + goes.given) sys left) are
       (goes.turns sys 0 (refl, refl)) in
@@ -93,7 +95,7 @@ module _ {S E C F D : Type 0} {views : SystemViews S E C F D (Unit {0}) Bytes} {
             length-map {B = Task (RunningView C F D)} ends (λ e. Ended e),
           ))
           | inr ends_it ↦ inr (
-              let f = failure at_failure failed ends_it in
+              let f = failure given.at_failure failed ends_it in
               let error = fails (RunningView C F D) ends (subst (λ (ts : List (Task (RunningView C F D))). 0 < sum_by failed_of ts) are (fails_if f.1)) in
               (f.0, error.0, error.1))
         ];

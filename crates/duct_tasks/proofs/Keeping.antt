@@ -13,7 +13,7 @@ use Rattle.duct.specs.declared.expression.Expression.{Expression}
 use Rattle.duct_tasks.specs.Turns.{InSuccession, IsIdle, IsWhy, Keeps, Runs, StoppedIf, WhyAfter, last_of, End, GoesTo, Turn, seen}
 use Rattle.duct_tasks.specs.declared.keeper.Kept.{Kept}
 use Rattle.duct_tasks.specs.declared.keeper.Why.{Why}
-use Rattle.duct_tasks.specs.declared.keeper.Why.TheVariants.{Stopped, GaveUp}
+use Rattle.duct_tasks.specs.declared.keeper.Why.TheVariants.{GaveUp}
 use Rattle.duct_tasks.specs.declared.once.Run.{Run}
 use Rattle.duct_tasks.specs.declared.once.Run.TheVariants as run
 use Rattle.duct_tasks.specs.declared.task.Task.TheVariants.{Running, Ended}
@@ -80,7 +80,7 @@ module _ {S E C F D : Type 0} (views : SystemViews S E C F D (Unit {0}) Bytes) {
     module _ (starts : ℕ) (last : Option End) (sys : S) (pool : PoolView C)
         (before : SoFar starts last sys pool) (most : ℕ) where
       pub over : (why : Why) → starts ≤ most → IsWhy most says why starts last
-          → Keeps views allows refuses root most says (record { starts = starts; why = why; last = last }) first sys old pool
+          → Keeps views allows refuses root most says (first, old) (record { starts = starts; why = why; last = last }) (sys, pool)
       over why few is = record {
         few = few;
         given = before.given;
@@ -114,7 +114,7 @@ module _ {S E C F D : Type 0} (views : SystemViews S E C F D (Unit {0}) Bytes) {
         }
 
         pub ends : (now.why ≡ GaveUp → ⊥) → starts < most → StoppedIf (says true) one
-            → Keeps views allows refuses root most says now first left old kept
+            → Keeps views allows refuses root most says (first, old) now (left, kept)
         ends off few stop = record {
           few = omega (arith, count, few);
           given = before.given + ran.0;

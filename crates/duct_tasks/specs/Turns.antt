@@ -25,13 +25,14 @@ use Rattle.duct_running.specs.Stored.{Bytes}
 use Rattle.duct_handle.specs.Started.{AreNumbers}
 use Rattle.duct_handle.specs.Waited.{at_end}
 use Rattle.duct_handle.specs.HandleView.{HandleView}
-use Rattle.duct.specs.Launched.{added_between, draining, drains_error, drains_output, Fails, Handles, LaunchRefused, Launched, Returns, RunFailed}
+use Rattle.duct.specs.Launched.{added_between, draining, drains_error, drains_output, Fails, Handles, LaunchRefused, Launched, Returns, RunFailed, StartKind}
 use Rattle.duct.specs.TreeView.{tree_view}
 use Rattle.duct.specs.declared.expression.Expression.{Expression}
 use Rattle.duct_tasks.specs.declared.task.Task.{Task}
 use Rattle.duct_tasks.specs.declared.task.Task.TheVariants.{Running, Ended}
 use Rattle.duct_tasks.specs.declared.many.AtFailure.{AtFailure}
 use Rattle.duct_tasks.specs.declared.many.AtFailure.TheVariants.{GoOn, Wait, Stop}
+use Rattle.duct_tasks.specs.declared.many.Tasks.{Tasks}
 use Rattle.duct_tasks.specs.declared.keeper.Kept.{Kept}
 use Rattle.duct_tasks.specs.declared.keeper.Why.{Why}
 use Rattle.duct_tasks.specs.declared.keeper.Why.TheVariants.{Stopped, GaveUp, Failed}
@@ -148,13 +149,13 @@ module _ {S E C F D : Type 0} (views : SystemViews S E C F D (Unit {0}) Bytes) w
     -- each task was started in its turn, and this is how it ended; the pool was given the children
     -- of those that failed, and none else; and all tasks were started, unless one failed and that
     -- is to end the starts
-    pub record RanAll (tasks : List (Expression E H)) (at_failure : AtFailure) (ends : List End)
-        (sys after : S) (before left : PoolView C) : Type 0 where
+    pub record RanAll (tasks : Tasks E H) (before : S × PoolView C) (ends : List End)
+        (after : S × PoolView C) : Type 0 where
       pub given : ℕ
-      pub in_turn : InTurn EndsWith tasks ends given sys after
-      pub pool : left.given ≡ counted before.given given
-      pub all : (length ends ≡ length tasks)
-          ⊎ ((at_failure ≡ GoOn → ⊥) × (e : Error) × Contains ends (Err e))
+      pub in_turn : InTurn EndsWith tasks.all.now ends given before.0 after.0
+      pub pool : after.1.given ≡ counted before.1.given given
+      pub all : (length ends ≡ length tasks.all.now)
+          ⊎ ((tasks.at_failure ≡ GoOn → ⊥) × (e : Error) × Contains ends (Err e))
 
 -- an output or a checked failure, to which each command of an expression has ended
 abbrev pub IsOver : End → Type 0
@@ -215,23 +216,25 @@ module _ {S E C F D : Type 0} (views : SystemViews S E C F D (Unit {0}) Bytes) {
   -- there were at most so many starts, of which no two ran at once, and none before the stop
   -- function had said no; the pool was given the children of those that failed or of which it is
   -- not known how they ended, and no others; and it is said why there is no further start
-  pub record Keeps (most : ℕ) (says : Bool → Type 0) (kept : Kept) (sys after : S)
-      (before left : PoolView C) : Type 0 where
+  pub record Keeps (most : ℕ) (says : Bool → Type 0) (before : S × PoolView C) (kept : Kept)
+      (after : S × PoolView C) : Type 0 where
     pub few : kept.starts ≤ most
     pub given : ℕ
-    pub runs : InSuccession kept.starts kept.last given sys after
-    pub pool : left.given ≡ counted before.given given
+    pub runs : InSuccession kept.starts kept.last given before.0 after.0
+    pub pool : after.1.given ≡ counted before.1.given given
     pub asked : 0 < kept.starts → says false
     pub why : IsWhy most says kept.why kept.starts kept.last
 
-  -- what a start does, as `Expression::start` promises it
-  abbrev pub IsStart : S × PoolView C → Result HandleView Error → S × PoolView C → Type 0
-  IsStart before (Ok handle) after = Launched views allows draining root before.0 after.0
+  -- what a start does that returns a handle, as `Expression::start` and `Expression::reader`
+  -- promise it
+  abbrev pub IsStart : StartKind → S × PoolView C → Result HandleView Error → S × PoolView C
+      → Type 0
+  IsStart kind before (Ok handle) after = Launched views allows kind root before.0 after.0
       before.1 after.1 (Handles views handle)
-  IsStart before (Err e) after = LaunchRefused views allows refuses draining root before.0 after.0
+  IsStart kind before (Err e) after = LaunchRefused views allows refuses kind root before.0 after.0
       before.1 after.1 e
 
-  -- what a run does, as `Expression::run` promises it
+  -- what `Expression::run` promises
   abbrev pub IsRun : S × PoolView C → Result Output Error → S × PoolView C → Type 0
   IsRun before (Ok output) after = Launched views allows draining root before.0 after.0
       before.1 after.1 (Returns views output)

@@ -1,5 +1,5 @@
 -- What an expression that runs or is read until a moment of a clock returns, and what it leaves.
-use Rattle.std.specs.Prelude.{ℕ, ◌<◌, ◌≤◌, ◌⊎◌, Err, pos, Bool, true, false, List, [], ◌∷◌, ◌≡◌, All, map, is_some, IfNone, IfSome, ◌+◌, min, string_bytes}
+use Rattle.std.specs.Prelude.{ℕ, ◌<◌, ◌≤◌, ◌⊎◌, Ok, Err, pos, Bool, true, false, List, [], ◌∷◌, ◌≡◌, All, map, is_some, IfNone, IfSome, ◌+◌, min, string_bytes}
 use Rattle.std.specs.Duration.{as_nanos, max_nanos}
 use Rattle.std.specs.declared.time.Duration.{Duration}
 use Rattle.std.specs.declared.result.Result.{Result}
@@ -173,41 +173,62 @@ ReadsFirst says shows nanos workers read =
     ⊎ ((number : ℕ) × (others : List ℕ) × (workers ≡ number ∷ others)
     × (fault : Fault) × says number (said.Fault fault)))
 
+-- an expression was stopped not before this moment, in nanoseconds, and killed not before the end
+-- of the grace
+pub record IsStoppedAt (grace : Duration) (shows : Duration → Type 0) (moment : ℕ) (stopped : Late)
+    : Type 0 where
+  pub late : HasReached shows moment
+  pub patient : UnlessEnded stopped.ended
+      (HasReached shows (min (moment + as_nanos grace) max_nanos))
+
 module _ {S E C F D : Type 0} (views : SystemViews S E C F D (Unit {0}) Bytes) {H : Type 0}
-    (allows : Allows H) (shows : Duration → Type 0) (nanos : ℕ) where
+    (allows : Allows H) (refuses : Refuses H) (root : Expression E H) (grace : Duration)
+    (shows : Duration → Type 0) (moment : ℕ) where
+  -- what a run until this moment does: the expression ended in time with this output; or it was
+  -- stopped, with what it left; or it failed as `Expression::run` does
+  abbrev pub IsRunUntil : S × PoolView C → Result (Until Output Late) Error → S × PoolView C
+      → Type 0
+  IsRunUntil before (Ok (until.Done output)) after = Launched views allows draining root before.0
+      after.0 before.1 after.1 (ReturnsInTime views shows moment output)
+  IsRunUntil before (Ok (until.Late late)) after = IsStoppedAt grace shows moment late
+      × LaunchStopped views allows root before.0 after.0 before.1 after.1 late
+  IsRunUntil before (Err e) after = RunFailed views allows refuses draining root before.0 after.0
+      before.1 after.1 (Fails views) e
+
   -- the captured expression ended in time, and this holds of the bytes that it wrote to stdout
-  pub record Captured (root : Expression E H) (sys after : S) (before left : PoolView C)
-      (holds : List ℕ → Type 0) : Type 0 where
+  pub record Captured (before after : S × PoolView C) (holds : List ℕ → Type 0) : Type 0 where
     pub captured : Expression E H
     pub is_captured : IsCaptured root captured
     pub output : Output
-    pub launched : Launched views allows draining captured sys after before left
-        (ReturnsInTime views shows nanos output)
+    pub launched : Launched views allows draining captured before.0 after.0 before.1 after.1
+        (ReturnsInTime views shows moment output)
     pub bytes : holds output.stdout.items
 
-  -- the captured expression ran, and the text is what it wrote to stdout, without the line ends at
-  -- its end
-  abbrev pub PrintsText : Expression E H → S → S → PoolView C → PoolView C → String Global → Type 0
-  PrintsText root sys after before left text =
-      Captured root sys after before left (λ bytes. string_bytes text ≡ trimmed bytes)
-
-  -- the captured expression was stopped; the bytes that were read until this moment, if there are
-  -- any, are those of the first capture worker of the entries, which is that of stdout
-  pub record ReadStopped (root : Expression E H) (sys after : S) (before left : PoolView C)
-      (late : LateRead) : Type 0 where
+  -- the captured expression was stopped; the bytes that were read a second beyond the grace, if
+  -- there are any, are those of the first capture worker of the entries, which is that of stdout
+  pub record ReadStopped (before after : S × PoolView C) (late : LateRead) : Type 0 where
     pub captured : Expression E H
     pub is_captured : IsCaptured root captured
-    pub stopped : LaunchStopped views allows captured sys after before left late.late
-    pub read : ReadsFirst views.drain_says shows nanos
-        (drains_in (added_between views sys after)) late.read
+    pub stopped : LaunchStopped views allows captured before.0 after.0 before.1 after.1 late.late
+    pub read : ReadsFirst views.drain_says shows (last_read moment (as_nanos grace))
+        (drains_in (added_between views before.0 after.0)) late.read
 
   -- there was no memory for the capture, and nothing was started; or the captured expression failed
   -- to start or to run; or it ran, and the bytes without the line ends at their end are not UTF-8
-  abbrev pub ReadFailed : Refuses H → Expression E H → S → S → PoolView C → PoolView C → Error
-      → Type 0
-  ReadFailed refuses root sys after before left e =
-      ((e ≡ error.Memory) × (after ≡ sys) × (left ≡ before))
+  abbrev pub ReadFailed : S × PoolView C → S × PoolView C → Error → Type 0
+  ReadFailed before after e =
+      ((e ≡ error.Memory) × (after.0 ≡ before.0) × (after.1 ≡ before.1))
       ⊎ ((captured : Expression E H) × IsCaptured root captured
-      × RunFailed views allows refuses draining captured sys after before left (Fails views) e)
-      ⊎ ((e ≡ error.NotUtf8) × Captured root sys after before left
-      (λ bytes. IsUtf8 (trimmed bytes) → ⊥))
+      × RunFailed views allows refuses draining captured before.0 after.0 before.1 after.1
+      (Fails views) e)
+      ⊎ ((e ≡ error.NotUtf8) × Captured before after (λ bytes. IsUtf8 (trimmed bytes) → ⊥))
+
+  -- what a read until this moment does: the captured expression ended in time, and the text is what
+  -- it wrote to stdout, without the line ends at its end; or it was stopped, or failed
+  abbrev pub IsReadUntil : S × PoolView C → Result (Until (String Global) LateRead) Error
+      → S × PoolView C → Type 0
+  IsReadUntil before (Ok (until.Done text)) after =
+      Captured before after (λ bytes. string_bytes text ≡ trimmed bytes)
+  IsReadUntil before (Ok (until.Late late)) after =
+      IsStoppedAt grace shows moment late.late × ReadStopped before after late
+  IsReadUntil before (Err e) after = ReadFailed before after e

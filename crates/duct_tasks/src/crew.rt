@@ -69,7 +69,7 @@ impl<'t, H: Hook, S: System> Crew<'t, S::End, H, Running<S>> {
             pool.new.given }
     {
         let _limit = self.tasks.limit; // it is below 2^64
-        let made = started(&self.tasks.all[self.started.len()], sys, pool);
+        let made = started(sys, pool, &self.tasks.all[self.started.len()]);
         self.running += running(&made);
         self.failed |= has_failed(&made);
         self.started.push_reserved(made);
@@ -78,9 +78,9 @@ impl<'t, H: Hook, S: System> Crew<'t, S::End, H, Running<S>> {
     /// Starts tasks while there is room.
     pub fn start_more<T: Fn(usize, Progress<'_>)>(
         &mut self,
-        tell: &T,
         sys: &mut S,
         pool: &mut Pool<S::Child>,
+        tell: &T,
     )
         requires { T.IsAlwaysCallable tell.now }
         ensures tasks { self.new.tasks ≡ self.old.tasks }
@@ -100,7 +100,7 @@ impl<'t, H: Hook, S: System> Crew<'t, S::End, H, Running<S>> {
     }
 
     // Polls the task at this place, if it runs. Returns whether it has ended by that.
-    fn poll(&mut self, at: usize, pool: &mut Pool<S::Child>) -> bool
+    fn poll(&mut self, pool: &mut Pool<S::Child>, at: usize) -> bool
         requires { at < length self.old.started.items }
         ensures tasks { self.new.tasks ≡ self.old.tasks }
         ensures count { length self.new.started.items ≡ length self.old.started.items }
@@ -110,14 +110,14 @@ impl<'t, H: Hook, S: System> Crew<'t, S::End, H, Running<S>> {
     {
         let task = &mut self.started[at];
         self.running -= running(task);
-        let has_ended = advance(task, pool);
+        let has_ended = advance(pool, task);
         self.running += running(task);
         self.failed |= has_failed(task);
         has_ended
     }
 
     /// Polls the tasks that run.
-    pub fn poll_all<T: Fn(usize, Progress<'_>)>(&mut self, tell: &T, pool: &mut Pool<S::Child>)
+    pub fn poll_all<T: Fn(usize, Progress<'_>)>(&mut self, pool: &mut Pool<S::Child>, tell: &T)
         requires { T.IsAlwaysCallable tell.now }
         ensures tasks { self.new.tasks ≡ self.old.tasks }
         ensures turns { (sys : S) → Goes ⟦<S as Viewed>⟧.views H.allows H.refuses
@@ -125,7 +125,7 @@ impl<'t, H: Hook, S: System> Crew<'t, S::End, H, Running<S>> {
             pool.old.given pool.new.given }
     {
         for at in 0..self.started.len() {
-            if self.poll(at, pool) {
+            if self.poll(pool, at) {
                 say(tell, at, &self.started[at]);
             }
         }

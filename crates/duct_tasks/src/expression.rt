@@ -1,6 +1,7 @@
 //! Attempts at starts and runs of an expression.
 ghost use Rattle.std.specs.Prelude.{◌<◌};
 ghost use Rattle.std.specs.Fn.{FnReturnsAt};
+ghost use Rattle.duct.specs.Launched.{draining};
 ghost use Rattle.duct_tasks.specs.Turns.{Attempts, IsRun, IsStart};
 
 use crate::repeated::attempts;
@@ -13,23 +14,23 @@ use std::sync::Wait;
 /// start returned. Each start follows the expression's plan, and gives what it leaves running to
 /// the pool. It doesn't pause between two starts, unless `is_transient` does.
 ///
-/// Example: `start_attempts(3, is_busy, &server, &mut host, &mut pool)?`
+/// Example: `start_attempts(&mut host, &mut pool, &server, 3, is_busy)?`
 pub fn start_attempts<S: System, H: Hook, F: Fn(&Error) -> bool>(
-    most: u32,
-    is_transient: F,
-    expression: &Expression<S::End, H>,
     system: &mut S,
     pool: &mut Pool<S::Child>,
+    expression: &Expression<S::End, H>,
+    most: u32,
+    is_transient: F,
 ) -> Result<Handle<S>, Error>
     requires some { 0 < most }
     requires test { F.IsAlwaysCallable is_transient }
     ensures { Attempts
-        (IsStart ⟦<S as Viewed>⟧.views H.allows H.refuses expression.now)
+        (IsStart ⟦<S as Viewed>⟧.views H.allows H.refuses expression.now draining)
         (FnReturnsAt F.Fn is_transient) most
         (system.old, pool.old) result (system.new, pool.new) }
 {
     for _ in 1..most {
-        match start_once(expression, system, pool) {
+        match start_once(system, pool, expression) {
             Ok(handle) => return Ok(handle),
             Err(error) => {
                 if !is_transient(&error) {
@@ -38,7 +39,7 @@ pub fn start_attempts<S: System, H: Hook, F: Fn(&Error) -> bool>(
             }
         }
     }
-    start_once(expression, system, pool)
+    start_once(system, pool, expression)
 }
 
 /// Runs an expression as `Expression::run` does, and again each time that the run fails with an
@@ -46,14 +47,14 @@ pub fn start_attempts<S: System, H: Hook, F: Fn(&Error) -> bool>(
 /// run returned. It blocks while one runs, and doesn't pause between two, unless `is_transient`
 /// does.
 ///
-/// Example: `run_attempts(3, is_checked, &rt, &fetch, &mut host, &mut pool)?`
+/// Example: `run_attempts(&rt, &mut host, &mut pool, &fetch, 3, is_checked)?`
 pub fn run_attempts<S: System, H: Hook, F: Fn(&Error) -> bool>(
-    most: u32,
-    is_transient: F,
     rt: &impl Wait,
-    expression: &Expression<S::End, H>,
     system: &mut S,
     pool: &mut Pool<S::Child>,
+    expression: &Expression<S::End, H>,
+    most: u32,
+    is_transient: F,
 ) -> Result<Output, Error>
     requires some { 0 < most }
     requires test { F.IsAlwaysCallable is_transient }
@@ -62,17 +63,17 @@ pub fn run_attempts<S: System, H: Hook, F: Fn(&Error) -> bool>(
         (FnReturnsAt F.Fn is_transient) most
         (system.old, pool.old) result (system.new, pool.new) }
 {
-    attempts(most, is_transient, system, pool, |system, pool| {
-        run_once(rt, expression, system, pool)
+    attempts(system, pool, most, is_transient, |system, pool| {
+        run_once(rt, system, pool, expression)
     })
 }
 
 fn start_once<S: System, H: Hook>(
-    expression: &Expression<S::End, H>,
     system: &mut S,
     pool: &mut Pool<S::Child>,
+    expression: &Expression<S::End, H>,
 ) -> Result<Handle<S>, Error>
-    ensures { IsStart ⟦<S as Viewed>⟧.views H.allows H.refuses expression.now
+    ensures { IsStart ⟦<S as Viewed>⟧.views H.allows H.refuses expression.now draining
         (system.old, pool.old) result (system.new, pool.new) }
 {
     expression.start(system, pool)
@@ -80,9 +81,9 @@ fn start_once<S: System, H: Hook>(
 
 fn run_once<S: System, H: Hook>(
     rt: &impl Wait,
-    expression: &Expression<S::End, H>,
     system: &mut S,
     pool: &mut Pool<S::Child>,
+    expression: &Expression<S::End, H>,
 ) -> Result<Output, Error>
     ensures { IsRun ⟦<S as Viewed>⟧.views H.allows H.refuses expression.now
         (system.old, pool.old) result (system.new, pool.new) }

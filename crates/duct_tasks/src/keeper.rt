@@ -27,6 +27,15 @@ pub struct Restarts {
     pub grace: Duration,
 }
 
+/// An expression that is kept running.
+#[derive(Drop)]
+pub struct Service<'s, E, H, C> {
+    pub expression: &'s Expression<E, H>,
+    pub restarts: Restarts,
+    /// What says how long a pause and the grace last.
+    pub clock: &'s C,
+}
+
 /// Why an expression is not started again.
 #[derive(Clone, Copy, Debug, PartialEq, Eq, Drop)]
 pub enum Why {
@@ -78,22 +87,20 @@ fn longer(pause: Duration, restarts: &Restarts) -> Duration {
 ///
 /// It blocks until then.
 ///
-/// Example: `keep(&server, &restarts, &rt, &clock, || stops.load(SeqCst), |_, _| {}, &mut host,
-/// &mut pool)`
+/// Example: `keep(&rt, &mut host, &mut pool, &Service { expression: &server, restarts, clock },
+/// || stops.load(SeqCst), |_, _| {})`
 pub fn keep<H: Hook, S: System, C: Clock, F: Fn() -> bool, T: Fn(u32, Progress<'_>)>(
-    expression: &Expression<S::End, H>,
-    restarts: &Restarts,
     rt: &impl Wait,
-    clock: &C,
-    stop: F,
-    tell: T,
     sys: &mut S,
     pool: &mut Pool<S::Child>,
+    service: &Service<'_, S::End, H, C>,
+    stop: F,
+    tell: T,
 ) -> Kept
     requires asked { F.IsAlwaysCallable stop }
     requires told { T.IsAlwaysCallable tell }
-    ensures { Keeps ⟦<S as Viewed>⟧.views H.allows H.refuses expression.now restarts.now.most
-        (F.post stop) result sys.old sys.new pool.old pool.new }
+    ensures { Keeps ⟦<S as Viewed>⟧.views H.allows H.refuses service.now.expression.now
+        service.now.restarts.most (F.post stop) (sys.old, pool.old) result (sys.new, pool.new) }
 {
     let mut kept = Kept {
         starts: 0,
@@ -101,28 +108,19 @@ pub fn keep<H: Hook, S: System, C: Clock, F: Fn() -> bool, T: Fn(u32, Progress<'
         last: None,
     };
     let mut next = Duration::ZERO;
-    for place in 0..restarts.most {
-        if pause(rt, clock, &stop, next) {
+    for place in 0..service.restarts.most {
+        if pause(rt, service.clock, &stop, next) {
             kept.why = Why::Stopped;
             return kept;
         }
         let tell = |it: Progress<'_>| tell(place, it);
-        let run = run_once(
-            expression,
-            rt,
-            clock,
-            restarts.grace,
-            &stop,
-            &tell,
-            sys,
-            pool,
-        );
+        let run = run_once(rt, sys, pool, service, &stop, &tell);
         tell_end(&tell, &run);
         kept = after(place + 1, run);
         if !may_start(&kept) {
             return kept;
         }
-        next = longer(next, restarts);
+        next = longer(next, &service.restarts);
     }
     kept
 }

@@ -3,9 +3,20 @@
 use duct_base::error::Error;
 use duct_base::system::Output;
 use std::sync::Arc;
+use std::time::Duration;
 
 /// The signal that asks a command to end.
 pub const TERMINATE: i32 = 15;
+
+/// The moment until which an expression may run.
+#[derive(Drop)]
+pub struct Deadline<'c, C> {
+    pub clock: &'c C,
+    /// The moment, which counts from the clock's zero.
+    pub moment: Duration,
+    /// How long the expression may run on after signal 15 before it is killed.
+    pub grace: Duration,
+}
 
 /// How an expression ended that runs until a moment: in time, or late.
 #[derive(Drop)]

@@ -16,8 +16,8 @@ mod task;
 mod watch;
 
 pub use expression::{run_attempts, start_attempts};
-pub use keeper::{Kept, Restarts, Why, keep};
-pub use late::{Late, LateRead, TERMINATE, Until};
+pub use keeper::{Kept, Restarts, Service, Why, keep};
+pub use late::{Deadline, Late, LateRead, TERMINATE, Until};
 pub use many::{AtFailure, Progress, Tasks, run_all};
 pub use read::read_until;
 pub use repeated::attempts;

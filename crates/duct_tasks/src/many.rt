@@ -57,36 +57,36 @@ pub enum Progress<'a> {
 ///
 /// Fails with `Error::Memory`, before anything is started.
 ///
-/// Example: `run_all(Tasks { all: &steps, limit: 4, at_failure: AtFailure::Wait }, alloc, &rt,
-/// |_, _| {}, &mut host, &mut pool)?`
+/// Example: `run_all(&rt, alloc, &mut host, &mut pool,
+/// Tasks { all: &steps, limit: 4, at_failure: AtFailure::Wait }, |_, _| {})?`
 pub fn run_all<H: Hook, S: System, T: Fn(usize, Progress<'_>)>(
-    tasks: Tasks<'_, S::End, H>,
-    alloc: Global,
     rt: &impl Wait,
-    tell: T,
+    alloc: Global,
     sys: &mut S,
     pool: &mut Pool<S::Child>,
+    tasks: Tasks<'_, S::End, H>,
+    tell: T,
 ) -> Result<Vec<Result<Arc<Output>, Error>>, Error>
     requires some { 0 < tasks.limit }
     requires told { T.IsAlwaysCallable tell }
     ensures ran { IfOk result (λ ends. RanAll ⟦<S as Viewed>⟧.views H.allows H.refuses
-        tasks.entry.all.now tasks.entry.at_failure ends.items sys.old sys.new pool.old pool.new) }
+        tasks.entry (sys.old, pool.old) ends.items (sys.new, pool.new)) }
     ensures failed { IfErr result
         (λ e. (e ≡ Memory) × (sys.new ≡ sys.old) × (pool.new ≡ pool.old)) }
 {
     let room = Vec::with_capacity(alloc, tasks.all.len())?;
     let mut crew = Crew::new(alloc, tasks)?;
-    work(rt, &tell, &mut crew, sys, pool);
+    work(rt, sys, pool, &mut crew, &tell);
     Ok(crew.into_ends(room))
 }
 
 // Starts the tasks and polls them until none runs.
 fn work<H: Hook, S: System, T: Fn(usize, Progress<'_>)>(
     rt: &impl Wait,
-    tell: &T,
-    crew: &mut Crew<'_, S::End, H, Running<S>>,
     sys: &mut S,
     pool: &mut Pool<S::Child>,
+    crew: &mut Crew<'_, S::End, H, Running<S>>,
+    tell: &T,
 )
     requires { T.IsAlwaysCallable tell.now }
     ensures tasks { crew.new.tasks ≡ crew.old.tasks }
@@ -99,13 +99,13 @@ fn work<H: Hook, S: System, T: Fn(usize, Progress<'_>)>(
 {
     let mut pauses = Pause::new();
     for _ in rt.forever() {
-        crew.start_more(tell, sys, pool);
+        crew.start_more(sys, pool, tell);
         if !crew.is_busy() {
             return;
         }
         crew.stop_after_failure();
         pauses.rest(rt);
-        crew.poll_all(tell, pool);
+        crew.poll_all(pool, tell);
     }
     unreachable!()
 }

@@ -6,10 +6,10 @@ ghost use Rattle.duct_running.specs.Answered.{ReturnsConclusion};
 ghost use Rattle.duct_handle.specs.Waited.{at_end};
 ghost use Rattle.duct_tasks.specs.Turns.{IsOver, Runs, StoppedIf, last_of, RunsAlike, gives};
 
+use crate::keeper::Service;
 use crate::many::Progress;
 use crate::task::{is_failure, spend};
 use crate::watch::{ask, kill, watch};
-use duct::Expression;
 use duct_base::error::Error;
 use duct_base::pause::Pause;
 use duct_base::pool::Pool;
@@ -92,26 +92,26 @@ fn has_failed(run: &Run) -> bool
 /// Starts the expression, tells so, and waits until it has ended, or ends it where it is to stop.
 /// One that can't be started has ended with the error of its start.
 pub(crate) fn run_once<H: Hook, S: System, C: Clock, F: Fn() -> bool, T: Fn(Progress<'_>)>(
-    expression: &Expression<S::End, H>,
     rt: &impl Wait,
-    clock: &C,
-    grace: Duration,
-    stop: &F,
-    tell: &T,
     sys: &mut S,
     pool: &mut Pool<S::Child>,
+    service: &Service<'_, S::End, H, C>,
+    stop: &F,
+    tell: &T,
 ) -> Run
     requires asked { F.IsAlwaysCallable stop.now }
     requires told { T.IsAlwaysCallable tell.now }
-    ensures ran { (given : ℕ) × Runs ⟦<S as Viewed>⟧.views H.allows H.refuses expression.now
-        (last_of result) given sys.old sys.new × (pool.new.given ≡ counted pool.old.given given) }
+    ensures ran { (given : ℕ) × Runs ⟦<S as Viewed>⟧.views H.allows H.refuses
+        service.now.expression.now (last_of result) given sys.old sys.new
+        × (pool.new.given ≡ counted pool.old.given given) }
     ensures says { StoppedIf (F.post stop.now true) result }
 {
-    match expression.launch(sys, pool) {
+    match service.expression.launch(sys, pool) {
         Ok(mut running) => {
             tell(Progress::Started);
+            let (clock, grace) = (service.clock, service.restarts.grace);
             let run = attend(rt, clock, grace, stop, &mut running);
-            spend(running, has_failed(&run), pool);
+            spend(pool, running, has_failed(&run));
             run
         }
         Err(error) => Run::Ended(Err(error)),

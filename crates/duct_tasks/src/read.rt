@@ -1,11 +1,11 @@
 //! The text of an expression that runs until a moment.
-ghost use Rattle.std.specs.Prelude.{◌+◌, ◌⊎◌, map, min, IfErr, IfNone, IfOk, IfSome};
-ghost use Rattle.std.specs.Duration.{as_nanos, max_nanos};
+ghost use Rattle.std.specs.Prelude.{◌⊎◌, map, IfNone, IfSome};
+ghost use Rattle.std.specs.Duration.{as_nanos};
 ghost use Rattle.duct_system.specs.declared.system.Fault.{Fault};
 ghost use Rattle.duct_system.specs.declared.system.Said.TheVariants as said;
-ghost use Rattle.duct_tasks.specs.Until.{HasReached, IfDone, IfLate, UnlessEnded, PrintsText, ReadFailed, ReadStopped, ReadsFirst, last_read};
+ghost use Rattle.duct_tasks.specs.Until.{HasReached, IsReadUntil, ReadsFirst};
 
-use crate::late::{LateRead, Until};
+use crate::late::{Deadline, LateRead, Until};
 use crate::run::launch_until;
 use crate::watch::is_over;
 use duct::Expression;
@@ -17,7 +17,6 @@ use duct_base::system::{Clock, Job, Said, System};
 use duct_handle::text::text_of;
 use duct_run::ending::give_all;
 use duct_system::views::Viewed;
-use std::alloc::Global;
 use std::sync::{Arc, Wait};
 use std::time::Duration;
 
@@ -81,41 +80,29 @@ fn first_bytes_until<D: Job<Result = Arc<Vec<u8>>>, C: Clock>(
 /// no memory for the capture, with nothing started, and with `Error::NotUtf8` where the expression
 /// ended in time with an output and its bytes are not UTF-8; then no child is left.
 ///
-/// Example: `read_until(&make, alloc, &rt, &clock, moment, grace, &mut host, &mut pool)?`
+/// Example: `read_until(&rt, &mut host, &mut pool, &make, &Deadline { clock, moment, grace })?`
 pub fn read_until<E: Drop, H: Hook, S: System<End = E>, C: Clock>(
-    expression: &Expression<E, H>,
-    alloc: Global,
     rt: &impl Wait,
-    clock: &C,
-    moment: Duration,
-    grace: Duration,
     sys: &mut S,
     pool: &mut Pool<S::Child>,
+    expression: &Expression<E, H>,
+    deadline: &Deadline<'_, C>,
 ) -> Result<Until<String, LateRead>, Error>
-    ensures text { IfOk result (λ until. IfDone until (PrintsText ⟦<S as Viewed>⟧.views H.allows
-        (C.may_show clock.now) (as_nanos moment) expression.now sys.old sys.new pool.old
-        pool.new)) }
-    ensures stopped { IfOk result (λ until. IfLate until (ReadStopped ⟦<S as Viewed>⟧.views
-        H.allows (C.may_show clock.now) (last_read (as_nanos moment) (as_nanos grace))
-        expression.now sys.old sys.new pool.old pool.new)) }
-    ensures late { IfOk result (λ until. IfLate until
-        (λ late. HasReached (C.may_show clock.now) (as_nanos moment))) }
-    ensures grace { IfOk result (λ until. IfLate until (λ late. UnlessEnded late.late.ended
-        (HasReached (C.may_show clock.now) (min (as_nanos moment + as_nanos grace) max_nanos)))) }
-    ensures failed { IfErr result (ReadFailed ⟦<S as Viewed>⟧.views H.allows
-        (C.may_show clock.now) (as_nanos moment) H.refuses expression.now sys.old sys.new pool.old
-        pool.new) }
+    ensures { IsReadUntil ⟦<S as Viewed>⟧.views H.allows H.refuses expression.now
+        deadline.now.grace (C.may_show deadline.now.clock.now) (as_nanos deadline.now.moment)
+        (sys.old, pool.old) result (sys.new, pool.new) }
 {
     let captured = expression.stdout_capture()?;
-    match launch_until(&captured, alloc, rt, clock, moment, grace, sys, pool)? {
+    match launch_until(rt, sys, pool, &captured, deadline)? {
         Until::Done(output) => Ok(Until::Done(text_of(output.stdout)?)),
         Until::Late((late, running)) => {
             let (children, feeds, drains) = running.into_parts();
             drop(feeds);
-            let last = moment
-                .saturating_add(grace)
+            let last = deadline
+                .moment
+                .saturating_add(deadline.grace)
                 .saturating_add(Duration::from_secs(LAST_READ));
-            let read = first_bytes_until(rt, clock, last, drains);
+            let read = first_bytes_until(rt, deadline.clock, last, drains);
             give_all(pool, children);
             Ok(Until::Late(LateRead { read, late }))
         }

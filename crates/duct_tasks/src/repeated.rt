@@ -7,12 +7,12 @@ ghost use Rattle.duct_tasks.specs.Turns.{Attempts, FnReturnsAtPairMut};
 /// transient, at most `most` times in all. Returns what the last call returned. It doesn't pause
 /// between two calls, unless `is_transient` does.
 ///
-/// Example: `attempts(3, is_busy, &mut host, &mut pool, |host, pool| step.read(&rt, host, pool))?`
+/// Example: `attempts(&mut host, &mut pool, 3, is_busy, |host, pool| step.read(&rt, host, pool))?`
 pub fn attempts<S, P, T, E: Drop, F, A>(
-    most: u32,
-    is_transient: F,
     system: &mut S,
     pool: &mut P,
+    most: u32,
+    is_transient: F,
     attempt: A,
 ) -> Result<T, E>
 where

@@ -8,9 +8,9 @@ ghost use Rattle.duct_running.specs.Polled.{ReturnsOutcome};
 ghost use Rattle.duct_handle.specs.Finished.{RanUntil, RanUntilGiven, StoresError, StoresReply};
 ghost use Rattle.duct_handle.specs.Waited.{at_end};
 ghost use Rattle.duct.specs.Launched.{Fails, Launched, RunFailed, draining};
-ghost use Rattle.duct_tasks.specs.Until.{HasReached, HasShownLess, IfDone, IfLate, LaunchStopped, ReturnsInTime, Stops, UnlessEnded};
+ghost use Rattle.duct_tasks.specs.Until.{HasReached, HasShownLess, IfDone, IfLate, IsRunUntil, ReturnsInTime, Stops, UnlessEnded};
 
-use crate::late::{Late, Until};
+use crate::late::{Deadline, Late, Until};
 use crate::stop::stop;
 use crate::watch::{is_over, watch};
 use duct::Expression;
@@ -21,18 +21,15 @@ use duct_base::system::{Clock, Output, System};
 use duct_handle::finish::finish;
 use duct_running::running::Running;
 use duct_system::views::Viewed;
-use std::alloc::Global;
 use std::sync::{Arc, Wait};
-use std::time::Duration;
 
 // Returns how what runs ended: the output itself, or the error, after which the children are given
 // to the pool.
 fn closed<S: System>(
-    alloc: Global,
     rt: &impl Wait,
+    pool: &mut Pool<S::Child>,
     running: Running<S>,
     ended: Result<Arc<Output>, Error>,
-    pool: &mut Pool<S::Child>,
 ) -> Result<Output, Error>
     requires unordered { IsUnordered ⟦<S as Viewed>⟧.views running }
     requires ended { ReturnsOutcome ⟦<S as Viewed>⟧.views running (at_end ended) }
@@ -46,6 +43,7 @@ fn closed<S: System>(
 {
     match ended {
         Ok(output) => {
+            let alloc = *output.stdout.allocator();
             drop(output); // so that `finish` need not copy it
             finish(alloc, rt, running, pool)
         }
@@ -56,32 +54,30 @@ fn closed<S: System>(
     }
 }
 
-/// Starts the expression and waits until it has ended, but not beyond this moment, at which it is
-/// stopped, with this much grace. What was stopped is returned with what runs, whose children are
-/// then still to be given to a pool.
+/// Starts the expression and waits until it has ended, but not beyond its deadline, at which it is
+/// stopped. What was stopped is returned with what runs, whose children are then still to be given
+/// to a pool.
 pub(crate) fn launch_until<E: Drop, H: Hook, S: System<End = E>, C: Clock>(
-    expression: &Expression<E, H>,
-    alloc: Global,
     rt: &impl Wait,
-    clock: &C,
-    moment: Duration,
-    grace: Duration,
     sys: &mut S,
     pool: &mut Pool<S::Child>,
+    expression: &Expression<E, H>,
+    deadline: &Deadline<'_, C>,
 ) -> Result<Until<Output, (Late, Running<S>)>, Error>
     ensures done { IfOk result (λ until. IfDone until (λ output. Launched ⟦<S as Viewed>⟧.views
         H.allows draining expression.now sys.old sys.new pool.old pool.new
-        (ReturnsInTime ⟦<S as Viewed>⟧.views (C.may_show clock.now) (as_nanos moment) output))) }
+        (ReturnsInTime ⟦<S as Viewed>⟧.views (C.may_show deadline.now.clock.now) (as_nanos deadline.now.moment) output))) }
     ensures stopped { IfOk result (λ until. IfLate until (λ stopped. Launched
         ⟦<S as Viewed>⟧.views H.allows draining expression.now sys.old sys.new pool.old pool.new
         (Stops ⟦<S as Viewed>⟧.views stopped.0 stopped.1))) }
     ensures late { IfOk result (λ until. IfLate until
-        (λ stopped. HasReached (C.may_show clock.now) (as_nanos moment))) }
+        (λ stopped. HasReached (C.may_show deadline.now.clock.now) (as_nanos deadline.now.moment))) }
     ensures grace { IfOk result (λ until. IfLate until (λ stopped. UnlessEnded stopped.0.ended
-        (HasReached (C.may_show clock.now) (min (as_nanos moment + as_nanos grace) max_nanos)))) }
+        (HasReached (C.may_show deadline.now.clock.now) (min (as_nanos deadline.now.moment + as_nanos deadline.now.grace) max_nanos)))) }
     ensures failed { IfErr result (RunFailed ⟦<S as Viewed>⟧.views H.allows H.refuses draining
         expression.now sys.old sys.new pool.old pool.new (Fails ⟦<S as Viewed>⟧.views)) }
 {
+    let (clock, moment) = (deadline.clock, deadline.moment);
     let mut running = expression.launch(sys, pool)?;
     let is_late = ||
         ensures over { result ≡ true → HasReached (C.may_show clock.entry.now) (as_nanos moment) }
@@ -89,24 +85,24 @@ pub(crate) fn launch_until<E: Drop, H: Hook, S: System<End = E>, C: Clock>(
             → HasShownLess (C.may_show clock.entry.now) (as_nanos moment) }
     { is_over(clock, moment) };
     match watch(rt, &is_late, false, &mut running) {
-        Some(ended) => match closed(alloc, rt, running, ended, pool) {
+        Some(ended) => match closed(rt, pool, running, ended) {
             Ok(output) => Ok(Until::Done(output)),
             Err(error) => Err(error),
         },
         None => {
-            let late = stop(rt, clock, moment, grace, &mut running);
+            let late = stop(rt, clock, moment, deadline.grace, &mut running);
             Ok(Until::Late((late, running)))
         }
     }
 }
 
-/// Runs the expression as `Expression::run` does, but not beyond this moment, which counts from the
-/// clock's zero. The clock is read after each poll that doesn't end the wait.
+/// Runs the expression as `Expression::run` does, but not beyond its deadline. The clock is read
+/// after each poll that doesn't end the wait.
 ///
 /// Where the clock shows the moment or a later one while the expression has not ended, it is
 /// stopped: each command that is not known to have ended is sent signal 15, and each that is still
-/// not known to have ended when the clock shows this much more is killed, each once and from right
-/// to left. Nothing waits for what was killed: the children are given to the pool, where a sweep
+/// not known to have ended when the clock shows the end of the grace is killed, each once and from
+/// right to left. Nothing waits for what was killed: the children are given to the pool, where a sweep
 /// reaps them. That it was stopped is no error but `Until::Late`, with how it ended and what the
 /// kill returned. A command is sent neither once it is known to have ended; and a command whose
 /// order finds no memory to be noted gets the other one alone, or none. An allocation failure of a
@@ -120,30 +116,19 @@ pub(crate) fn launch_until<E: Drop, H: Hook, S: System<End = E>, C: Clock>(
 /// Fails as `run` does, and leaves the same: where a fault ends the wait in time, its commands may
 /// run on in the pool, without an order.
 ///
-/// Example: `run_until(&make, alloc, &rt, &clock, moment, grace, &mut host, &mut pool)?`
+/// Example: `run_until(&rt, &mut host, &mut pool, &make, &Deadline { clock, moment, grace })?`
 pub fn run_until<E: Drop, H: Hook, S: System<End = E>, C: Clock>(
-    expression: &Expression<E, H>,
-    alloc: Global,
     rt: &impl Wait,
-    clock: &C,
-    moment: Duration,
-    grace: Duration,
     sys: &mut S,
     pool: &mut Pool<S::Child>,
+    expression: &Expression<E, H>,
+    deadline: &Deadline<'_, C>,
 ) -> Result<Until<Output, Late>, Error>
-    ensures done { IfOk result (λ until. IfDone until (λ output. Launched ⟦<S as Viewed>⟧.views
-        H.allows draining expression.now sys.old sys.new pool.old pool.new
-        (ReturnsInTime ⟦<S as Viewed>⟧.views (C.may_show clock.now) (as_nanos moment) output))) }
-    ensures stopped { IfOk result (λ until. IfLate until (LaunchStopped ⟦<S as Viewed>⟧.views
-        H.allows expression.now sys.old sys.new pool.old pool.new)) }
-    ensures late { IfOk result (λ until. IfLate until
-        (λ late. HasReached (C.may_show clock.now) (as_nanos moment))) }
-    ensures grace { IfOk result (λ until. IfLate until (λ late. UnlessEnded late.ended
-        (HasReached (C.may_show clock.now) (min (as_nanos moment + as_nanos grace) max_nanos)))) }
-    ensures failed { IfErr result (RunFailed ⟦<S as Viewed>⟧.views H.allows H.refuses draining
-        expression.now sys.old sys.new pool.old pool.new (Fails ⟦<S as Viewed>⟧.views)) }
+    ensures { IsRunUntil ⟦<S as Viewed>⟧.views H.allows H.refuses expression.now
+        deadline.now.grace (C.may_show deadline.now.clock.now) (as_nanos deadline.now.moment)
+        (sys.old, pool.old) result (sys.new, pool.new) }
 {
-    match launch_until(expression, alloc, rt, clock, moment, grace, sys, pool)? {
+    match launch_until(rt, sys, pool, expression, deadline)? {
         Until::Done(output) => Ok(Until::Done(output)),
         Until::Late((late, running)) => {
             running.give_up(pool);

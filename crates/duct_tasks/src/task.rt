@@ -23,9 +23,9 @@ pub(crate) enum Task<R> {
 
 /// Starts a task. One that can't be started has ended with the error of its start.
 pub(crate) fn started<E: Drop, H: Hook, S: System<End = E>>(
-    task: &Expression<E, H>,
     sys: &mut S,
     pool: &mut Pool<S::Child>,
+    task: &Expression<E, H>,
 ) -> Task<Running<S>>
     ensures { (given : ℕ) × Turn ⟦<S as Viewed>⟧.views H.allows H.refuses task.now result given
         sys.old sys.new × (pool.new.given ≡ counted pool.old.given given) }
@@ -44,7 +44,7 @@ pub(crate) fn is_failure(end: &Result<Arc<Output>, Error>) -> bool
 }
 
 /// Spends what has ended or was killed. Where it has failed, its children are given to the pool.
-pub(crate) fn spend<S: System>(running: Running<S>, failed: bool, pool: &mut Pool<S::Child>)
+pub(crate) fn spend<S: System>(pool: &mut Pool<S::Child>, running: Running<S>, failed: bool)
     ensures { pool.new.given ≡ counted pool.old.given
         (if failed then length (numbers_of ⟦<S as Viewed>⟧.views running).children else 0) }
 {
@@ -56,7 +56,7 @@ pub(crate) fn spend<S: System>(running: Running<S>, failed: bool, pool: &mut Poo
 }
 
 /// Polls a task, if it runs. Returns whether it has ended by that.
-pub(crate) fn advance<S: System>(task: &mut Task<Running<S>>, pool: &mut Pool<S::Child>) -> bool
+pub(crate) fn advance<S: System>(pool: &mut Pool<S::Child>, task: &mut Task<Running<S>>) -> bool
     ensures goes { (given : ℕ) × Advances ⟦<S as Viewed>⟧.views task.old task.new given
         × (pool.new.given ≡ counted pool.old.given given) }
     ensures runs { running_of task.new ≤ running_of task.old }
@@ -70,7 +70,7 @@ pub(crate) fn advance<S: System>(task: &mut Task<Running<S>>, pool: &mut Pool<S:
     };
     let failed = is_failure(&end);
     match replace(task, Task::Ended(end)) {
-        Task::Running(running) => spend(running, failed, pool),
+        Task::Running(running) => spend(pool, running, failed),
         Task::Ended(_) => unreachable!(),
     }
     true

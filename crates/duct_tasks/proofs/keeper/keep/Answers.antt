@@ -9,7 +9,7 @@ use Rattle.duct_tasks.proofs.keeper.keep.Goals as goal
 
 pub loop-place-init : goal.loop-place-init
 loop-place-init g c = record {
-  so_far = nothing (views_of g.S.System g.S.End.Numbered g.S.Child.Child g.S.Feed.Job g.S.Drain.Job) g.H.Hook.allows g.H.Hook.refuses c.args.expression.now (g.F.Fn.post c.args.stop tt) c.args.sys.now c.args.pool.now;
+  so_far = nothing (views_of g.S.System g.S.End.Numbered g.S.Child.Child g.S.Feed.Job g.S.Drain.Job) g.H.Hook.allows g.H.Hook.refuses c.args.service.now.expression.now (g.F.Fn.post c.args.stop tt) c.args.sys.now c.args.pool.now;
   starts = refl;
   why = refl;
   most = refl;
@@ -19,7 +19,7 @@ pub returns-then-pause : goal.returns-then-pause
 returns-then-pause g c =
     let says = g.F.Fn.post c.args.stop tt in
     let l = c.loop-place in
-    over (views_of g.S.System g.S.End.Numbered g.S.Child.Child g.S.Feed.Job g.S.Drain.Job) g.H.Hook.allows g.H.Hook.refuses c.args.expression.now says c.args.sys.now c.args.pool.now l.kept.starts l.kept.last l.sys l.pool l.invariant.so_far c.args.restarts.now.most
+    over (views_of g.S.System g.S.End.Numbered g.S.Child.Child g.S.Feed.Job g.S.Drain.Job) g.H.Hook.allows g.H.Hook.refuses c.args.service.now.expression.now says c.args.sys.now c.args.pool.now l.kept.starts l.kept.last l.sys l.pool l.invariant.so_far c.args.service.now.restarts.most
     Stopped (omega (arith, l.invariant.starts, l.invariant.most, c.loop-place-test.true)) (subst (λ (b : Bool). says b) c.if-pause.true c.pause.ensures)
 
 pub loop-place-preserved : goal.loop-place-preserved
@@ -27,7 +27,7 @@ loop-place-preserved g c =
     let says = g.F.Fn.post c.args.stop tt in
     let l = c.loop-place in
     record {
-      so_far = goes_on (views_of g.S.System g.S.End.Numbered g.S.Child.Child g.S.Feed.Job g.S.Drain.Job) g.H.Hook.allows g.H.Hook.refuses c.args.expression.now says c.args.sys.now c.args.pool.now l.kept.starts l.kept.last l.sys l.pool l.invariant.so_far c.args.restarts.now.most
+      so_far = goes_on (views_of g.S.System g.S.End.Numbered g.S.Child.Child g.S.Feed.Job g.S.Drain.Job) g.H.Hook.allows g.H.Hook.refuses c.args.service.now.expression.now says c.args.sys.now c.args.pool.now l.kept.starts l.kept.last l.sys l.pool l.invariant.so_far c.args.service.now.restarts.most
           c.run_once-run.result c.run_once-run.new.sys c.run_once-run.new.pool (subst (λ (b : Bool). says b) c.if-pause.false c.pause.ensures) c.run_once-run.ensures.ran
           c.after-kept.result (omega (arith, l.invariant.starts, c.after-kept.ensures.starts)) c.after-kept.ensures.last c.after-kept.ensures.why (c.may_start.ensures.yes c.if-not-may_start.false);
       starts = c.after-kept.ensures.starts;
@@ -39,7 +39,7 @@ pub returns-then-not-may_start : goal.returns-then-not-may_start
 returns-then-not-may_start g c =
     let says = g.F.Fn.post c.args.stop tt in
     let l = c.loop-place in
-    ends (views_of g.S.System g.S.End.Numbered g.S.Child.Child g.S.Feed.Job g.S.Drain.Job) g.H.Hook.allows g.H.Hook.refuses c.args.expression.now says c.args.sys.now c.args.pool.now l.kept.starts l.kept.last l.sys l.pool l.invariant.so_far c.args.restarts.now.most
+    ends (views_of g.S.System g.S.End.Numbered g.S.Child.Child g.S.Feed.Job g.S.Drain.Job) g.H.Hook.allows g.H.Hook.refuses c.args.service.now.expression.now says c.args.sys.now c.args.pool.now l.kept.starts l.kept.last l.sys l.pool l.invariant.so_far c.args.service.now.restarts.most
     c.run_once-run.result c.run_once-run.new.sys c.run_once-run.new.pool (subst (λ (b : Bool). says b) c.if-pause.false c.pause.ensures) c.run_once-run.ensures.ran
     c.after-kept.result (omega (arith, l.invariant.starts, c.after-kept.ensures.starts)) c.after-kept.ensures.last c.after-kept.ensures.why
     (c.may_start.ensures.no c.if-not-may_start.true) (omega (arith, l.invariant.starts, l.invariant.most, c.loop-place-test.true)) c.run_once-run.ensures.says
@@ -48,7 +48,7 @@ pub returns : goal.returns
 returns g c =
     let says = g.F.Fn.post c.args.stop tt in
     let l = c.loop-place in
-    over (views_of g.S.System g.S.End.Numbered g.S.Child.Child g.S.Feed.Job g.S.Drain.Job) g.H.Hook.allows g.H.Hook.refuses c.args.expression.now says c.args.sys.now c.args.pool.now l.kept.starts l.kept.last l.sys l.pool l.invariant.so_far c.args.restarts.now.most
+    over (views_of g.S.System g.S.End.Numbered g.S.Child.Child g.S.Feed.Job g.S.Drain.Job) g.H.Hook.allows g.H.Hook.refuses c.args.service.now.expression.now says c.args.sys.now c.args.pool.now l.kept.starts l.kept.last l.sys l.pool l.invariant.so_far c.args.service.now.restarts.most
     l.kept.why (omega (arith, l.invariant.starts, l.invariant.most, c.loop-place-test.false, l.auto.place-counter-end))
-    (subst (λ (w : Why). IsWhy c.args.restarts.now.most says w l.kept.starts l.kept.last) (sym l.invariant.why)
+    (subst (λ (w : Why). IsWhy c.args.service.now.restarts.most says w l.kept.starts l.kept.last) (sym l.invariant.why)
     (omega (arith, l.invariant.starts, l.invariant.most, c.loop-place-test.false, l.auto.place-counter-end), l.invariant.so_far.idle))

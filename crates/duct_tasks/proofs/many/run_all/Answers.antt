@@ -20,5 +20,5 @@ returns-clause-ran g c =
     let goes = subst (λ (roots : List (Expression _ _)). Goes views g.H.Hook.allows g.H.Hook.refuses roots [] ends c.args.sys.now c.work.new.sys c.args.pool.now.given c.work.new.pool.given)
     (ap (λ (t : Tasks _ _). t.all.now) c.in_ok-crew.ensures.tasks) turns in
     let over = subst (λ (t : Tasks _ _). (length t.all.now ≤ length ends) ⊎ (GoesOn t.at_failure c.work.new.crew.failed → ⊥)) tasks c.work.ensures.over in
-    ran_all c.args.tasks.at_failure c.into_ends.result.items c.work.new.crew.failed c.args.pool.now c.work.new.pool goes c.into_ends.ensures
+    ran_all c.args.tasks c.into_ends.result.items c.work.new.crew.failed c.args.pool.now c.work.new.pool goes c.into_ends.ensures
     c.work.new.crew.fails over

@@ -11,18 +11,18 @@ use Rattle.duct_tasks.specs.Until.{ReadsFirst, last_read}
 use Rattle.duct_tasks.proofs.Ending.{first_drain, gives_stopped}
 use Rattle.duct_tasks.proofs.read.read_until.Goals as goal
 
-pub returns-in_err-captured-clause-failed : goal.returns-in_err-captured-clause-failed
-returns-in_err-captured-clause-failed g c =
+pub returns-in_err-captured : goal.returns-in_err-captured
+returns-in_err-captured g c =
     let p = err_from_is_err_and c.from_residual.result c.from_residual.ensures.1 in
     rw (p.1, p.2, c.in_err-captured.ensures.memory) (inl (refl, refl, refl))
 
-pub returns-in_err-output-clause-failed : goal.returns-in_err-output-clause-failed
-returns-in_err-output-clause-failed g c =
+pub returns-in_err-output : goal.returns-in_err-output
+returns-in_err-output g c =
     let p = err_from_is_err_and c.from_residual-in_err-output.result c.from_residual-in_err-output.ensures.1 in
     rw (p.1, p.2) (inr (inl (c.in_ok-captured.captured, c.in_ok-captured.ensures.tree, c.in_err-output.ensures.failed)))
 
-pub returns-in_err-text_of-in-Done-clause-failed : goal.returns-in_err-text_of-in-Done-clause-failed
-returns-in_err-text_of-in-Done-clause-failed g c =
+pub returns-in_err-text_of-in-Done : goal.returns-in_err-text_of-in-Done
+returns-in_err-text_of-in-Done g c =
     let p = err_from_is_err_and c.from_residual-in_err-text_of-in-Done.result c.from_residual-in_err-text_of-in-Done.ensures.1 in
     let refused = c.in_err-text_of-in-Done.ensures.err in
     rw (p.1, p.2) (inr (inr (
@@ -36,8 +36,8 @@ returns-in_err-text_of-in-Done-clause-failed g c =
       },
     )))
 
-pub returns-in-Done-clause-text : goal.returns-in-Done-clause-text
-returns-in-Done-clause-text g c = record {
+pub returns-in-Done : goal.returns-in-Done
+returns-in-Done g c = record {
   captured = c.in_ok-captured.captured;
   is_captured = c.in_ok-captured.ensures.tree;
   output = c.in-Done.output;
@@ -45,34 +45,34 @@ returns-in-Done-clause-text g c = record {
   bytes = c.in_ok-text_of-in-Done.ensures.ok;
 }
 
-pub returns-clause-stopped : goal.returns-clause-stopped
-returns-clause-stopped g c =
+pub returns : goal.returns
+returns g c =
     let views = views_of g.S.System g.E.Numbered g.S.Child.Child g.S.Feed.Job g.S.Drain.Job in
     let captured = c.in_ok-captured.captured in
     let l = rw c.in-Late.is at c.in_ok-output.ensures.stopped in
     let tree = tree_view captured in
     let added = added_between views c.args.sys.now c.launch_until.new.sys in
-    let at_last : as_nanos c.saturating_add-last.result ≡ last_read (as_nanos c.args.moment) (as_nanos c.args.grace) =
+    let nanos : ℕ = last_read (as_nanos c.args.deadline.now.moment) (as_nanos c.args.deadline.now.grace) in
+    let at_last : as_nanos c.saturating_add-last.result ≡ nanos =
     rw (c.saturating_add-last.ensures, c.saturating_add.ensures, c.from_secs.ensures) refl in
     let gets : PoolGets views c.in-Late.running.children c.launch_until.new.pool c.give_all.new.pool =
-    subst (λ children. PoolGets views children c.launch_until.new.pool c.give_all.new.pool) c.into_parts-children.ensures.children c.give_all.ensures in
-    record {
-      captured = captured;
-      is_captured = c.in_ok-captured.ensures.tree;
-      stopped = record {
-        asked = l.asked;
-        is_late = (numbers_of views c.in-Late.running, l.makes.0);
-        given = gives_stopped views draining tree added c.in-Late.late c.in-Late.running l.makes.0 l.makes.1
-            c.args.pool.now c.launch_until.new.pool c.give_all.new.pool l.swept gets;
-      };
-      read = first_drain views draining tree added c.in-Late.late c.in-Late.running l.makes.0 _ c.into_parts-children.ensures.drains
-          (g.C.Clock.may_show c.args.clock.now) (last_read (as_nanos c.args.moment) (as_nanos c.args.grace)) c.first_bytes_until-read.result
-          (subst (λ (nanos : ℕ). ReadsFirst views.drain_says (g.C.Clock.may_show c.args.clock.now) nanos
-          (map (λ d. (views.drain d).number) c.into_parts-children.result.2.items) c.first_bytes_until-read.result) at_last c.first_bytes_until-read.ensures);
-    }
-
-pub returns-clause-late : goal.returns-clause-late
-returns-clause-late g c = rw c.in-Late.is at c.in_ok-output.ensures.late
-
-pub returns-clause-grace : goal.returns-clause-grace
-returns-clause-grace g c = rw c.in-Late.is at c.in_ok-output.ensures.grace
+    subst (λ children. PoolGets views children c.launch_until.new.pool c.give_all.new.pool) c.into_parts-children.ensures.children c.give_all.ensures in (
+      record {
+        late = rw c.in-Late.is at c.in_ok-output.ensures.late;
+        patient = rw c.in-Late.is at c.in_ok-output.ensures.grace;
+      },
+      record {
+        captured = captured;
+        is_captured = c.in_ok-captured.ensures.tree;
+        stopped = record {
+          asked = l.asked;
+          is_late = (numbers_of views c.in-Late.running, l.makes.0);
+          given = gives_stopped views draining tree added c.in-Late.late c.in-Late.running l.makes.0 l.makes.1
+              c.args.pool.now c.launch_until.new.pool c.give_all.new.pool l.swept gets;
+        };
+        read = first_drain views draining tree added c.in-Late.late c.in-Late.running l.makes.0 _ c.into_parts-children.ensures.drains
+            (g.C.Clock.may_show c.args.deadline.now.clock.now) nanos c.first_bytes_until-read.result
+            (subst (λ (n : ℕ). ReadsFirst views.drain_says (g.C.Clock.may_show c.args.deadline.now.clock.now) n
+            (map (λ d. (views.drain d).number) c.into_parts-children.result.2.items) c.first_bytes_until-read.result) at_last c.first_bytes_until-read.ensures);
+      },
+    )
