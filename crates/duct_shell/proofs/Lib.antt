@@ -1,7 +1,6 @@
 pub mod Asked
 pub mod Copying
 pub mod Explaining
-pub mod Lateness
 pub mod LineSteps
 pub mod Sharing
 pub mod Tails

@@ -1,8 +1,9 @@
 -- A run whose output is kept.
-use Rattle.std.specs.Prelude.{◌≡◌, ◌⊎◌, List, ℕ, Some, None, IfSome, map, string_bytes}
+use Rattle.std.specs.Prelude.{◌≡◌, ◌⊎◌, List, ℕ, Some, None, Ok, Err, IfSome, map, string_bytes}
 use Rattle.std.specs.Arc.{arc_value}
 use Rattle.std.specs.declared.alloc.Global.{Global}
 use Rattle.std.specs.declared.option.Option.{Option}
+use Rattle.std.specs.declared.result.Result.{Result}
 use Rattle.std.specs.declared.string.String.{String}
 use Rattle.std.specs.declared.sync.Arc.{Arc}
 use Rattle.std.specs.declared.vec.Vec.{Vec}
@@ -14,9 +15,10 @@ use Rattle.duct_start.specs.Chain.{Allows, Refuses}
 use Rattle.duct_start.specs.TreeView.{TreeView, around, command, pipe, stderr_capture, stdout_capture, unchecked}
 use Rattle.duct_system.specs.SystemViews.{SystemViews}
 use Rattle.duct_running.specs.Stored.{Bytes}
-use Rattle.duct.specs.Launched.{Fails, Launched, Returns, RunFailed, draining}
 use Rattle.duct.specs.TreeView.{tree_view}
 use Rattle.duct.specs.declared.expression.Expression.{Expression}
+use Rattle.duct_tasks.specs.Turns.{IsRun}
+use Rattle.duct_shell.specs.declared.capture.Captured.{Captured}
 
 -- the tree with both streams captured, whose failure is no error
 abbrev pub with_captures : {E H : Type 0} → TreeView E H → TreeView E H
@@ -36,15 +38,16 @@ AreCommand tree words = IfSome words
 
 module _ {S E C F D : Type 0} (views : SystemViews S E C F D (Unit {0}) Bytes) {H : Type 0}
     (allows : Allows H) (refuses : Refuses H) (expression : Expression E H) where
-  -- the expression with both streams captured was run, and this is its output
-  abbrev pub RunsCaptured : S → S → PoolView C → PoolView C → Output → Type 0
-  RunsCaptured sys after before left output =
+  -- what `Expression::run` promises, of the expression with both streams captured
+  abbrev pub IsRunInside : S × PoolView C → Result Output Error → S × PoolView C → Type 0
+  IsRunInside before result after =
       (root : Expression E H) × (tree_view root ≡ with_captures (tree_view expression))
-      × Launched views allows draining root sys after before left (Returns views output)
+      × IsRun views allows refuses root before result after
 
-  -- it failed to run with this error, or there was no memory for its nodes and nothing was done
-  abbrev pub CaptureFails : S → S → PoolView C → PoolView C → Error → Type 0
-  CaptureFails sys after before left e =
-      ((e ≡ Memory) × (after ≡ sys) × (left ≡ before))
-      ⊎ ((root : Expression E H) × (tree_view root ≡ with_captures (tree_view expression))
-      × RunFailed views allows refuses draining root sys after before left (Fails views) e)
+  -- a run whose output is kept, with the words of its command; or it failed, or there was no memory
+  -- for its nodes and nothing was done
+  abbrev pub IsRunCaptured : S × PoolView C → Result Captured Error → S × PoolView C → Type 0
+  IsRunCaptured before (Ok captured) after = IsRunInside before (Ok captured.output) after
+      × AreCommand (tree_view expression) captured.command
+  IsRunCaptured before (Err e) after = IsRunInside before (Err e) after
+      ⊎ ((e ≡ Memory) × (after.0 ≡ before.0) × (after.1 ≡ before.1))

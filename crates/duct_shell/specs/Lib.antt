@@ -1,4 +1,4 @@
-pub mod Begun
+pub mod Calls
 pub mod Captures
 pub mod Converted
 pub mod Copies

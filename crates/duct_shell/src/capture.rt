@@ -4,12 +4,12 @@ ghost use Rattle.duct_system.specs.Status.{is_success};
 ghost use Rattle.duct_system.specs.declared.error.Error.TheVariants.{Memory};
 ghost use Rattle.duct_tree.specs.NodeView.{node_view};
 ghost use Rattle.duct.specs.TreeView.{tree_view};
-ghost use Rattle.duct_shell.specs.Begun.{DoesFrom, FailsFrom};
-ghost use Rattle.duct_shell.specs.Captures.{AreCommand, CaptureFails, RunsCaptured, with_captures};
+ghost use Rattle.duct_shell.specs.Calls.{Calls};
+ghost use Rattle.duct_shell.specs.Captures.{AreCommand, IsRunCaptured, with_captures};
 
 use crate::failed_run::FailedRun;
 use crate::failure::Failure;
-use crate::shell::Shell;
+use crate::shell::{Shell, begin};
 use duct::tree::Node;
 use duct::{Error, Expression, Hook, Output, Pool, System};
 use duct_system::views::Viewed;
@@ -29,7 +29,7 @@ impl Captured {
     /// Returns the output if its status is a success. Else fails with all of it; the error's text
     /// ends with the last lines of stderr, at most `most` bytes.
     ///
-    /// Example: `run_captured(&rt, &make, &mut host, &mut pool)?.checked(4096)?`
+    /// Example: `run_captured(&rt, &mut host, &mut pool, &make)?.checked(4096)?`
     pub fn checked(self, most: usize) -> Result<Output, FailedRun>
         ensures output { IfOk result (λ output. output ≡ self.output) }
         ensures success { IfOk result (λ output. is_success output.status ≡ true) }
@@ -56,19 +56,15 @@ impl Captured {
 ///
 /// Fails as `run` does, and leaves the same, but never with `Error::Checked`.
 ///
-/// Example: `run_captured(&rt, &make, &mut host, &mut pool)?.output`
+/// Example: `run_captured(&rt, &mut host, &mut pool, &make)?.output`
 pub fn run_captured<S: System, H: Hook>(
     rt: &impl Wait,
-    expression: &Expression<S::End, H>,
     system: &mut S,
     pool: &mut Pool<S::Child>,
+    expression: &Expression<S::End, H>,
 ) -> Result<Captured, Error>
-    ensures output { IfOk result (λ captured. RunsCaptured ⟦<S as Viewed>⟧.views H.allows H.refuses
-        expression.now system.old system.new pool.old pool.new captured.output) }
-    ensures command { IfOk result
-        (λ captured. AreCommand (tree_view expression.now) captured.command) }
-    ensures failed { IfErr result (CaptureFails ⟦<S as Viewed>⟧.views H.allows H.refuses
-        expression.now system.old system.new pool.old pool.new) }
+    ensures { IsRunCaptured ⟦<S as Viewed>⟧.views H.allows H.refuses expression.now
+        (system.old, pool.old) result (system.new, pool.new) }
 {
     let output = with_captures(expression)?.run(rt, system, pool)?;
     let command = command_of(expression.root());
@@ -84,18 +80,13 @@ impl<S: System, R: Wait, H: Hook> Shell<S, R, H> {
     ///
     /// Example: `sh.run_captured(&cmd!(sh; "make")?)?.checked(4096)?`
     pub fn run_captured(&mut self, expression: &Expression<S::End, H>) -> Result<Captured, Failure>
-        ensures output { IfOk result (λ captured. DoesFrom S.journal_view self.old.keeps_journal
-            self.old.system (λ begun. RunsCaptured ⟦<S as Viewed>⟧.views H.allows H.refuses
-            expression.now begun self.new.system self.old.pool self.new.pool captured.output)) }
-        ensures command { IfOk result
-            (λ captured. AreCommand (tree_view expression.now) captured.command) }
-        ensures failed { IfErr result (FailsFrom S.journal_view self.old.keeps_journal
-            self.old.system self.new.system (λ begun. CaptureFails ⟦<S as Viewed>⟧.views H.allows
-            H.refuses expression.now begun self.new.system self.old.pool self.new.pool)) }
+        ensures calls { Calls S.journal_view self.old.keeps_journal
+            (IsRunCaptured ⟦<S as Viewed>⟧.views H.allows H.refuses expression.now)
+            (self.old.system, self.old.pool) result (self.new.system, self.new.pool) }
         ensures keeps { self.new.keeps_journal ≡ self.old.keeps_journal }
     {
-        let entries = self.begin();
-        match run_captured(&self.rt, expression, &mut self.system, &mut self.pool) {
+        let entries = begin(&mut self.system, self.keeps_journal);
+        match run_captured(&self.rt, &mut self.system, &mut self.pool, expression) {
             Ok(captured) => Ok(captured),
             Err(error) => Err(self.failure(entries, error)),
         }

@@ -1,6 +1,5 @@
 //! A system with the pool, the runtime and the allocator that each call over it needs.
-ghost use Rattle.std.specs.Prelude.{◌≡◌, ◌⊎◌, ◌∷◌, ◌+◌, List, [], drop, length, map, min, false, None, Ok, Err, IfErr, IfOk, OnOk, IsOkUnless};
-ghost use Rattle.std.specs.Duration.{as_nanos, max_nanos};
+ghost use Rattle.std.specs.Prelude.{◌≡◌, ◌∷◌, List, [], drop, length, map, false, None, Ok, Err, IfErr, IfOk, OnOk, IsOkUnless};
 ghost use Rattle.duct_system.specs.EntryView.{entry_view};
 ghost use Rattle.duct_system.specs.Journal.{IsCleared};
 ghost use Rattle.duct_system.specs.SpecView.{texts_of};
@@ -13,10 +12,11 @@ ghost use Rattle.duct_run.specs.Requested.{PoolGets};
 ghost use Rattle.duct_running.specs.Answered.{IsAnswer, IsConcluded};
 ghost use Rattle.duct_handle.specs.AreGiven.{AreGiven};
 ghost use Rattle.duct_handle.specs.Obeyed.{IsObeyed};
-ghost use Rattle.duct.specs.Launched.{Fails, Handles, LaunchRefused, Launched, ReadFails, Reads, Returns, RunFailed, draining, reading};
+ghost use Rattle.duct.specs.Launched.{draining};
 ghost use Rattle.duct.specs.TreeView.{tree_view};
-ghost use Rattle.duct_tasks.specs.Until.{HasReached, IfDone, IfLate, LaunchStopped, ReturnsInTime, UnlessEnded, PrintsText, ReadFailed, ReadStopped, last_read};
-ghost use Rattle.duct_shell.specs.Begun.{Begins, DoesFrom, FailsFrom, FromNow};
+ghost use Rattle.duct_tasks.specs.Turns.{IsRun, IsStart};
+ghost use Rattle.duct_tasks.specs.Until.{IsReadUntil, IsRunUntil};
+ghost use Rattle.duct_shell.specs.Calls.{Begins, Calls, FromNow, IsRead, IsReader};
 ghost use Rattle.duct_shell.specs.FailedRequest.{Names};
 
 use crate::failure::Failure;
@@ -26,7 +26,7 @@ use duct::{
 };
 use duct_host::{Host, Parents};
 use duct_system::views::Viewed;
-use duct_tasks::{Late, LateRead, Until, read_until, run_until};
+use duct_tasks::{Deadline, Late, LateRead, Until, read_until, run_until};
 use std::alloc::Global;
 use std::fs::File;
 use std::marker::PhantomData;
@@ -166,20 +166,6 @@ impl<S: System, R, H: Drop> Shell<S, R, H> {
         self.system.clear_journal();
     }
 
-    // Begins a call that starts an expression. Returns how many entries the journal has.
-    pub(crate) fn begin(&mut self) -> usize
-        ensures begins { Begins S.journal_view self.old.keeps_journal self.old.system
-            self.new.system }
-        ensures entries { result ≡ length (S.journal_view self.new.system).entries }
-        ensures pool { self.new.pool ≡ self.old.pool }
-        ensures keeps { self.new.keeps_journal ≡ self.old.keeps_journal }
-    {
-        if !self.keeps_journal {
-            self.clear();
-        }
-        self.system.journal().len()
-    }
-
     // Returns the failure of a call that began with so many entries, and failed with this error.
     pub(crate) fn failure(&self, entries: usize, error: Error) -> Failure
         ensures error { result.error ≡ error }
@@ -188,6 +174,17 @@ impl<S: System, R, H: Drop> Shell<S, R, H> {
     {
         Failure::new(self.alloc, after(self.system.journal(), entries), error)
     }
+}
+
+// Begins a call that starts an expression. Returns how many entries the journal has.
+pub(crate) fn begin<S: System>(system: &mut S, keeps_journal: bool) -> usize
+    ensures begins { Begins S.journal_view keeps_journal system.old system.new }
+    ensures entries { result ≡ length (S.journal_view system.new).entries }
+{
+    if !keeps_journal {
+        system.clear_journal();
+    }
+    system.journal().len()
 }
 
 // Returns the entries after the first so many.
@@ -208,19 +205,16 @@ impl<S: System, R, H: Hook> Shell<S, R, H> {
     ///
     /// Example: `let server = sh.start(&cmd!(sh; "server")?)?;`
     pub fn start(&mut self, expression: &Expression<S::End, H>) -> Result<Handle<S>, Failure>
-        ensures launched { IfOk result (λ handle. DoesFrom S.journal_view self.old.keeps_journal
-            self.old.system (λ begun. Launched ⟦<S as Viewed>⟧.views H.allows draining
-            expression.now begun self.new.system self.old.pool self.new.pool
-            (Handles ⟦<S as Viewed>⟧.views handle))) }
-        ensures refused { IfErr result (FailsFrom S.journal_view self.old.keeps_journal
-            self.old.system self.new.system (λ begun. LaunchRefused ⟦<S as Viewed>⟧.views H.allows
-            H.refuses draining expression.now begun self.new.system self.old.pool
-            self.new.pool)) }
+        ensures calls { Calls S.journal_view self.old.keeps_journal
+            (IsStart ⟦<S as Viewed>⟧.views H.allows H.refuses expression.now draining)
+            (self.old.system, self.old.pool) result (self.new.system, self.new.pool) }
         ensures keeps { self.new.keeps_journal ≡ self.old.keeps_journal }
     {
-        let entries = self.begin();
-        let returned = expression.start(&mut self.system, &mut self.pool);
-        returned.map_err(|error| self.failure(entries, error))
+        let entries = begin(&mut self.system, self.keeps_journal);
+        match expression.start(&mut self.system, &mut self.pool) {
+            Ok(handle) => Ok(handle),
+            Err(error) => Err(self.failure(entries, error)),
+        }
     }
 }
 
@@ -237,24 +231,20 @@ impl<S: System, R: Wait + Clone + Drop, H: Hook> Shell<S, R, H> {
         &mut self,
         expression: &Expression<S::End, H>,
     ) -> Result<ReaderHandle<S, R>, Failure>
-        ensures launched { IfOk result (λ handle. DoesFrom S.journal_view self.old.keeps_journal
-            self.old.system (λ begun. Launched ⟦<S as Viewed>⟧.views H.allows reading
-            expression.now begun self.new.system self.old.pool self.new.pool
-            (Handles ⟦<S as Viewed>⟧.views handle))) }
-        ensures refused { IfErr result (FailsFrom S.journal_view self.old.keeps_journal
-            self.old.system self.new.system (λ begun e. ((e ≡ Memory)
-            × (self.new.system ≡ begun) × (self.new.pool ≡ self.old.pool))
-            ⊎ LaunchRefused ⟦<S as Viewed>⟧.views H.allows H.refuses reading expression.now begun
-            self.new.system self.old.pool self.new.pool e)) }
+        ensures calls { Calls S.journal_view self.old.keeps_journal
+            (IsReader ⟦<S as Viewed>⟧.views H.allows H.refuses expression.now)
+            (self.old.system, self.old.pool) result (self.new.system, self.new.pool) }
         ensures keeps { self.new.keeps_journal ≡ self.old.keeps_journal }
     {
-        let entries = self.begin();
+        let entries = begin(&mut self.system, self.keeps_journal);
         let rt = match self.rt.clone() {
             Ok(rt) => rt,
             Err(_) => return Err(self.failure(entries, Error::Memory)),
         };
-        let returned = expression.reader(rt, &mut self.system, &mut self.pool);
-        returned.map_err(|error| self.failure(entries, error))
+        match expression.reader(rt, &mut self.system, &mut self.pool) {
+            Ok(handle) => Ok(handle),
+            Err(error) => Err(self.failure(entries, error)),
+        }
     }
 }
 
@@ -266,19 +256,16 @@ impl<S: System, R: Wait, H: Hook> Shell<S, R, H> {
     ///
     /// Example: `sh.run(&cmd!(sh; "make")?.env("V", "1")?)?`
     pub fn run(&mut self, expression: &Expression<S::End, H>) -> Result<Output, Failure>
-        ensures output { IfOk result (λ output. DoesFrom S.journal_view self.old.keeps_journal
-            self.old.system (λ begun. Launched ⟦<S as Viewed>⟧.views H.allows draining
-            expression.now begun self.new.system self.old.pool self.new.pool
-            (Returns ⟦<S as Viewed>⟧.views output))) }
-        ensures failed { IfErr result (FailsFrom S.journal_view self.old.keeps_journal
-            self.old.system self.new.system (λ begun. RunFailed ⟦<S as Viewed>⟧.views H.allows
-            H.refuses draining expression.now begun self.new.system self.old.pool self.new.pool
-            (Fails ⟦<S as Viewed>⟧.views))) }
+        ensures calls { Calls S.journal_view self.old.keeps_journal
+            (IsRun ⟦<S as Viewed>⟧.views H.allows H.refuses expression.now)
+            (self.old.system, self.old.pool) result (self.new.system, self.new.pool) }
         ensures keeps { self.new.keeps_journal ≡ self.old.keeps_journal }
     {
-        let entries = self.begin();
-        let returned = expression.run(&self.rt, &mut self.system, &mut self.pool);
-        returned.map_err(|error| self.failure(entries, error))
+        let entries = begin(&mut self.system, self.keeps_journal);
+        match expression.run(&self.rt, &mut self.system, &mut self.pool) {
+            Ok(output) => Ok(output),
+            Err(error) => Err(self.failure(entries, error)),
+        }
     }
 
     /// Reads what an expression prints, as `Expression::read` does: it blocks until it has ended,
@@ -288,19 +275,17 @@ impl<S: System, R: Wait, H: Hook> Shell<S, R, H> {
     ///
     /// Example: `sh.read(&cmd!(sh; "git", "status")?.dir(folder)?)?`
     pub fn read(&mut self, expression: &Expression<S::End, H>) -> Result<String, Failure>
-        ensures text { IfOk result (λ text. DoesFrom S.journal_view self.old.keeps_journal
-            self.old.system (λ begun. Launched ⟦<S as Viewed>⟧.views H.allows reading
-            expression.now begun self.new.system self.old.pool self.new.pool
-            (Reads ⟦<S as Viewed>⟧.views S.may_read S.Reader.remaining text))) }
-        ensures failed { IfErr result (FailsFrom S.journal_view self.old.keeps_journal
-            self.old.system self.new.system (λ begun. RunFailed ⟦<S as Viewed>⟧.views H.allows
-            H.refuses reading expression.now begun self.new.system self.old.pool self.new.pool
-            (ReadFails ⟦<S as Viewed>⟧.views S.may_read S.Reader.remaining))) }
+        ensures calls { Calls S.journal_view self.old.keeps_journal
+            (IsRead ⟦<S as Viewed>⟧.views H.allows H.refuses expression.now S.may_read
+            S.Reader.remaining)
+            (self.old.system, self.old.pool) result (self.new.system, self.new.pool) }
         ensures keeps { self.new.keeps_journal ≡ self.old.keeps_journal }
     {
-        let entries = self.begin();
-        let returned = expression.read(&self.rt, &mut self.system, &mut self.pool);
-        returned.map_err(|error| self.failure(entries, error))
+        let entries = begin(&mut self.system, self.keeps_journal);
+        match expression.read(&self.rt, &mut self.system, &mut self.pool) {
+            Ok(text) => Ok(text),
+            Err(error) => Err(self.failure(entries, error)),
+        }
     }
 
     /// Waits for a handle as `Handle::into_output` does: it blocks until what it runs has ended,
@@ -362,32 +347,26 @@ impl<S: System, R: Wait, H: Hook> Shell<S, R, H> {
         grace: Duration,
         expression: &Expression<S::End, H>,
     ) -> Result<Until<Output, Late>, Failure>
-        ensures done { IfOk result (λ until. IfDone until (λ output.
-            FromNow (C.may_show clock.now) limit (λ moment.
-            DoesFrom S.journal_view self.old.keeps_journal self.old.system (λ begun.
-            Launched ⟦<S as Viewed>⟧.views H.allows draining expression.now begun self.new.system
-            self.old.pool self.new.pool
-            (ReturnsInTime ⟦<S as Viewed>⟧.views (C.may_show clock.now) moment output))))) }
-        ensures stopped { IfOk result (λ until. IfLate until (λ late.
-            DoesFrom S.journal_view self.old.keeps_journal self.old.system (λ begun.
-            LaunchStopped ⟦<S as Viewed>⟧.views H.allows expression.now begun self.new.system
-            self.old.pool self.new.pool late))) }
-        ensures late { IfOk result (λ until. IfLate until (λ late.
-            FromNow (C.may_show clock.now) limit (HasReached (C.may_show clock.now)))) }
-        ensures grace { IfOk result (λ until. IfLate until (λ late.
-            FromNow (C.may_show clock.now) limit (λ moment. UnlessEnded late.ended
-            (HasReached (C.may_show clock.now) (min (moment + as_nanos grace) max_nanos))))) }
-        ensures failed { IfErr result (FailsFrom S.journal_view self.old.keeps_journal
-            self.old.system self.new.system (λ begun. RunFailed ⟦<S as Viewed>⟧.views H.allows
-            H.refuses draining expression.now begun self.new.system self.old.pool self.new.pool
-            (Fails ⟦<S as Viewed>⟧.views))) }
+        ensures calls { Calls S.journal_view self.old.keeps_journal
+            (FromNow (C.may_show clock.now) limit
+            (IsRunUntil ⟦<S as Viewed>⟧.views H.allows H.refuses expression.now grace))
+            (self.old.system, self.old.pool) result (self.new.system, self.new.pool) }
         ensures keeps { self.new.keeps_journal ≡ self.old.keeps_journal }
     {
-        let entries = self.begin();
+        let entries = begin(&mut self.system, self.keeps_journal);
         let moment = clock.now().saturating_add(limit);
-        let (rt, alloc) = (&self.rt, self.alloc);
-        let (system, pool) = (&mut self.system, &mut self.pool);
-        match run_until(expression, alloc, rt, clock, moment, grace, system, pool) {
+        let deadline = Deadline {
+            clock,
+            moment,
+            grace,
+        };
+        match run_until(
+            &self.rt,
+            &mut self.system,
+            &mut self.pool,
+            expression,
+            &deadline,
+        ) {
             Ok(until) => Ok(until),
             Err(error) => Err(self.failure(entries, error)),
         }
@@ -407,34 +386,26 @@ impl<S: System, R: Wait, H: Hook> Shell<S, R, H> {
         grace: Duration,
         expression: &Expression<S::End, H>,
     ) -> Result<Until<String, LateRead>, Failure>
-        ensures text { IfOk result (λ until. IfDone until (λ text.
-            FromNow (C.may_show clock.now) limit (λ moment.
-            DoesFrom S.journal_view self.old.keeps_journal self.old.system (λ begun.
-            PrintsText ⟦<S as Viewed>⟧.views H.allows (C.may_show clock.now) moment expression.now
-            begun self.new.system self.old.pool self.new.pool text)))) }
-        ensures stopped { IfOk result (λ until. IfLate until (λ late.
-            FromNow (C.may_show clock.now) limit (λ moment.
-            DoesFrom S.journal_view self.old.keeps_journal self.old.system (λ begun.
-            ReadStopped ⟦<S as Viewed>⟧.views H.allows (C.may_show clock.now)
-            (last_read moment (as_nanos grace)) expression.now begun self.new.system self.old.pool
-            self.new.pool late)))) }
-        ensures late { IfOk result (λ until. IfLate until (λ late.
-            FromNow (C.may_show clock.now) limit (HasReached (C.may_show clock.now)))) }
-        ensures grace { IfOk result (λ until. IfLate until (λ late.
-            FromNow (C.may_show clock.now) limit (λ moment. UnlessEnded late.late.ended
-            (HasReached (C.may_show clock.now) (min (moment + as_nanos grace) max_nanos))))) }
-        ensures failed { IfErr result (λ failure. FromNow (C.may_show clock.now) limit (λ moment.
-            FailsFrom S.journal_view self.old.keeps_journal self.old.system self.new.system
-            (λ begun. ReadFailed ⟦<S as Viewed>⟧.views H.allows (C.may_show clock.now) moment
-            H.refuses expression.now begun self.new.system self.old.pool self.new.pool)
-            failure)) }
+        ensures calls { Calls S.journal_view self.old.keeps_journal
+            (FromNow (C.may_show clock.now) limit
+            (IsReadUntil ⟦<S as Viewed>⟧.views H.allows H.refuses expression.now grace))
+            (self.old.system, self.old.pool) result (self.new.system, self.new.pool) }
         ensures keeps { self.new.keeps_journal ≡ self.old.keeps_journal }
     {
-        let entries = self.begin();
+        let entries = begin(&mut self.system, self.keeps_journal);
         let moment = clock.now().saturating_add(limit);
-        let (rt, alloc) = (&self.rt, self.alloc);
-        let (system, pool) = (&mut self.system, &mut self.pool);
-        match read_until(expression, alloc, rt, clock, moment, grace, system, pool) {
+        let deadline = Deadline {
+            clock,
+            moment,
+            grace,
+        };
+        match read_until(
+            &self.rt,
+            &mut self.system,
+            &mut self.pool,
+            expression,
+            &deadline,
+        ) {
             Ok(until) => Ok(until),
             Err(error) => Err(self.failure(entries, error)),
         }

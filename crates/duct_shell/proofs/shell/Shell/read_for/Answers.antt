@@ -1,22 +1,31 @@
-use Rattle.duct_shell.proofs.Lateness.{late_implies}
+use Rattle.std.specs.Duration.{as_nanos}
 use Rattle.duct_shell.proofs.shell.Shell.read_for.Goals as goal
 
-pub returns-in-Ok-clause-grace : goal.returns-in-Ok-clause-grace
-returns-in-Ok-clause-grace g c =
-    late_implies c.in-Ok.until
-    (λ late held. (c.now.result, c.now.ensures, rw (← c.saturating_add-moment.ensures) held)) c.in-Ok.ensures.grace
+pub returns-in-Ok-clause-calls : goal.returns-in-Ok-clause-calls
+returns-in-Ok-clause-calls g c = (
+  c.begin-entries.new.system,
+  c.begin-entries.ensures.begins,
+  record {
+    now = c.now.result;
+    shown = c.now.ensures;
+    moment = as_nanos c.saturating_add-moment.result;
+    counted = c.saturating_add-moment.ensures;
+    done = c.in-Ok.ensures;
+  },
+)
 
-pub returns-in-Err-clause-failed : goal.returns-in-Err-clause-failed
-returns-in-Err-clause-failed g c = (
-  c.now.result,
-  c.now.ensures,
+pub returns-in-Err-clause-calls : goal.returns-in-Err-clause-calls
+returns-in-Err-clause-calls g c = (
+  c.begin-entries.new.system,
+  c.begin-entries.ensures.begins,
   (
-    c.begin-entries.new.self.system,
-    c.begin-entries.ensures.begins,
-    (
-      rw (c.failure.ensures.error, ← c.saturating_add-moment.ensures, ← c.begin-entries.ensures.pool)
-          c.in-Err.ensures.failed,
-      rw (← c.begin-entries.ensures.entries) c.failure.ensures.request,
-    ),
+    record {
+      now = c.now.result;
+      shown = c.now.ensures;
+      moment = as_nanos c.saturating_add-moment.result;
+      counted = c.saturating_add-moment.ensures;
+      done = rw (c.failure.ensures.error) c.in-Err.ensures;
+    },
+    rw (← c.begin-entries.ensures.entries) c.failure.ensures.request,
   ),
 )
