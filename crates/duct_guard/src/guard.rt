@@ -147,14 +147,7 @@ impl<S: System, P: Policy> Guarded<S, P> {
         ensures forwards { ∥ ForwardsAll (P.rules result.1) self.earlier self.journal.entries
             (S.journal_view result.0).entries ∥₁ }
     {
-        let Guarded {
-            inner,
-            policy,
-            journal: _,
-            earlier: _,
-            held: _,
-            crew: _,
-        } = self;
+        let Guarded { inner, policy, .. } = self;
         (inner, policy)
     }
 
@@ -304,10 +297,11 @@ impl<S: System, P: Policy> System for Guarded<S, P> {
     ) -> Result<GuardedChild<S::Child>, Fault>
         requires { min 1 (length (ends_of io)) ≤ self.old.journal.room }
         ensures ok { IfOk result (λ child.
-            let number = S.Child.number_of child.inner in
-            let entry = Spawn spec (map (stream_of S.End.number_of) io) (Ok number) in
-            GivesEnds entry (length (ends_of io)) self.old.journal self.new.journal
-            × IsNew self.old.journal self.new.journal number) }
+            let streams = map (stream_of S.End.number_of) io in
+            let entry = Spawn spec streams (Ok (S.Child.number_of child.inner)) in
+            GivesEnds entry (length (ends_of io)) self.old.journal self.new.journal) }
+        ensures fresh { IfOk result (λ child.
+            IsNew self.old.journal self.new.journal (S.Child.number_of child.inner)) }
         ensures unasked { IfOk result (λ child. IsUnasked (S.Child.child_view child.inner)) }
         ensures err { IfErr result (λ fault.
             let entry = Spawn spec (map (stream_of S.End.number_of) io) (Err fault) in

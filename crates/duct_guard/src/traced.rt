@@ -83,12 +83,7 @@ impl<S, W> Traced<S, W> {
         ensures system { result.0 ≡ self.system }
         ensures writer { result.1 ≡ self.writer }
     {
-        let Traced {
-            system,
-            writer,
-            stopped: _,
-            alloc: _,
-        } = self;
+        let Traced { system, writer, .. } = self;
         (system, writer)
     }
 }
@@ -177,11 +172,11 @@ impl<S: System, W: Write> System for Traced<S, W> {
     fn spawn(&mut self, spec: CommandSpec, io: [Stdio<S::End>; 3]) -> Result<S::Child, Fault>
         requires { min 1 (length (ends_of io)) ≤ (S.journal_view self.old.system).room }
         ensures ok { IfOk result (λ child.
-            let number = S.Child.number_of child in
-            let entry = Spawn spec (map (stream_of S.End.number_of) io) (Ok number) in
-            GivesEnds entry (length (ends_of io)) (S.journal_view self.old.system)
-            (S.journal_view self.new.system)
-            × IsNew (S.journal_view self.old.system) (S.journal_view self.new.system) number) }
+            let streams = map (stream_of S.End.number_of) io in
+            GivesEnds (Spawn spec streams (Ok (S.Child.number_of child))) (length (ends_of io))
+            (S.journal_view self.old.system) (S.journal_view self.new.system)) }
+        ensures fresh { IfOk result (λ child. IsNew (S.journal_view self.old.system)
+            (S.journal_view self.new.system) (S.Child.number_of child)) }
         ensures unasked { IfOk result (λ child. IsUnasked (S.Child.child_view child)) }
         ensures err { IfErr result (λ fault.
             let entry = Spawn spec (map (stream_of S.End.number_of) io) (Err fault) in

@@ -9,6 +9,7 @@ use crate::crew::GuardedChild;
 use crate::fixed::{Fixed, FixedRules};
 use crate::guard::Guarded;
 use crate::policy::Policy;
+use duct::tree::Node;
 use duct::{Error, Expression, Hook, Output, Pool, System};
 use duct_system::views::Viewed;
 use std::alloc::Global;
@@ -33,13 +34,12 @@ pub struct Under<S, T> {
 /// than what the policy allows, and nothing more is held than its limits. The policy is dropped. It
 /// returns what `Expression::read` returns there, and leaves the same in the pool.
 ///
-/// Example: `read_under(Programs::new(tools), &rt, alloc, system, &mut pool, &step)`
+/// Example: `read_under(&rt, system, &mut pool, Programs::new(tools), &step)`
 pub fn read_under<S: System, P: Policy + Drop, H: Hook>(
-    policy: P,
     rt: &impl Wait,
-    alloc: Global,
     system: S,
     pool: &mut Pool<GuardedChild<S::Child>>,
+    policy: P,
     expression: &Expression<S::End, H>,
 ) -> Under<S, String>
     requires { (S.journal_view system).entries ≡ [] }
@@ -47,22 +47,21 @@ pub fn read_under<S: System, P: Policy + Drop, H: Hook>(
     ensures fits { Fits (P.rules policy).limits result.held }
     ensures few { result.running ≤ (P.rules policy).at_once }
     ensures read { Guards {K = Brand} ⟦<S as Viewed>⟧.views P.Policy.own
-        (record { rules = P.rules policy }) system result (λ begun ended.
-        IsRead (guard_views ⟦<S as Viewed>⟧.views) H.allows H.refuses expression.now S.may_read
-        S.Reader.remaining (begun, pool.old) result.returned (ended, pool.new)) }
+        (record { rules = P.rules policy })
+        (IsRead (guard_views ⟦<S as Viewed>⟧.views) H.allows H.refuses expression.now S.may_read
+        S.Reader.remaining) (system, pool.old) (result, pool.new) }
 {
-    read_fixed::<S, P, H, Brand>(policy, rt, alloc, system, pool, expression)
+    read_fixed::<S, P, H, Brand>(rt, system, pool, policy, expression)
 }
 
 /// Runs an expression, as `Expression::run` does, under the same conditions.
 ///
-/// Example: `run_under(ReadOnly, &rt, alloc, system, &mut pool, &step)`
+/// Example: `run_under(&rt, system, &mut pool, ReadOnly, &step)`
 pub fn run_under<S: System, P: Policy + Drop, H: Hook>(
-    policy: P,
     rt: &impl Wait,
-    alloc: Global,
     system: S,
     pool: &mut Pool<GuardedChild<S::Child>>,
+    policy: P,
     expression: &Expression<S::End, H>,
 ) -> Under<S, Output>
     requires { (S.journal_view system).entries ≡ [] }
@@ -70,20 +69,19 @@ pub fn run_under<S: System, P: Policy + Drop, H: Hook>(
     ensures fits { Fits (P.rules policy).limits result.held }
     ensures few { result.running ≤ (P.rules policy).at_once }
     ensures run { Guards {K = Brand} ⟦<S as Viewed>⟧.views P.Policy.own
-        (record { rules = P.rules policy }) system result (λ begun ended.
-        IsRun (guard_views ⟦<S as Viewed>⟧.views) H.allows H.refuses expression.now
-        (begun, pool.old) result.returned (ended, pool.new)) }
+        (record { rules = P.rules policy })
+        (IsRun (guard_views ⟦<S as Viewed>⟧.views) H.allows H.refuses expression.now)
+        (system, pool.old) (result, pool.new) }
 {
-    run_fixed::<S, P, H, Brand>(policy, rt, alloc, system, pool, expression)
+    run_fixed::<S, P, H, Brand>(rt, system, pool, policy, expression)
 }
 
 // Reads by a policy whose rules are those of the mark.
 fn read_fixed<S: System, P: Policy + Drop, H: Hook, K: FixedRules>(
-    policy: P,
     rt: &impl Wait,
-    alloc: Global,
     system: S,
     pool: &mut Pool<GuardedChild<S::Child>>,
+    policy: P,
     expression: &Expression<S::End, H>,
 ) -> Under<S, String>
     requires fixed { P.rules policy ≡ K.rules }
@@ -91,24 +89,22 @@ fn read_fixed<S: System, P: Policy + Drop, H: Hook, K: FixedRules>(
     ensures allowed { AreAllowed K.rules (S.journal_view result.system).entries }
     ensures fits { Fits K.rules.limits result.held }
     ensures few { result.running ≤ K.rules.at_once }
-    ensures read { Guards ⟦<S as Viewed>⟧.views P.Policy.own K.FixedRules.own system result
-        (λ begun ended. IsRead (guard_views ⟦<S as Viewed>⟧.views) H.allows H.refuses
-        expression.now S.may_read S.Reader.remaining (begun, pool.old) result.returned
-        (ended, pool.new)) }
+    ensures read { Guards ⟦<S as Viewed>⟧.views P.Policy.own K.FixedRules.own
+        (IsRead (guard_views ⟦<S as Viewed>⟧.views) H.allows H.refuses expression.now S.may_read
+        S.Reader.remaining) (system, pool.old) (result, pool.new) }
 {
     let policy: Fixed<P, K> = Fixed::new(policy);
-    let mut guarded = Guarded::new(alloc, system, policy);
+    let mut guarded = Guarded::new(allocator(expression.root()), system, policy);
     let text = expression.read(rt, &mut guarded, pool);
     ended(guarded, text)
 }
 
 // Runs by a policy whose rules are those of the mark.
 fn run_fixed<S: System, P: Policy + Drop, H: Hook, K: FixedRules>(
-    policy: P,
     rt: &impl Wait,
-    alloc: Global,
     system: S,
     pool: &mut Pool<GuardedChild<S::Child>>,
+    policy: P,
     expression: &Expression<S::End, H>,
 ) -> Under<S, Output>
     requires fixed { P.rules policy ≡ K.rules }
@@ -116,14 +112,22 @@ fn run_fixed<S: System, P: Policy + Drop, H: Hook, K: FixedRules>(
     ensures allowed { AreAllowed K.rules (S.journal_view result.system).entries }
     ensures fits { Fits K.rules.limits result.held }
     ensures few { result.running ≤ K.rules.at_once }
-    ensures run { Guards ⟦<S as Viewed>⟧.views P.Policy.own K.FixedRules.own system result
-        (λ begun ended. IsRun (guard_views ⟦<S as Viewed>⟧.views) H.allows H.refuses
-        expression.now (begun, pool.old) result.returned (ended, pool.new)) }
+    ensures run { Guards ⟦<S as Viewed>⟧.views P.Policy.own K.FixedRules.own
+        (IsRun (guard_views ⟦<S as Viewed>⟧.views) H.allows H.refuses expression.now)
+        (system, pool.old) (result, pool.new) }
 {
     let policy: Fixed<P, K> = Fixed::new(policy);
-    let mut guarded = Guarded::new(alloc, system, policy);
+    let mut guarded = Guarded::new(allocator(expression.root()), system, policy);
     let output = expression.run(rt, &mut guarded, pool);
     ended(guarded, output)
+}
+
+// Returns the allocator that an expression with this root has its memory from.
+fn allocator<E, H>(root: &Node<E, H>) -> Global {
+    match root {
+        Node::Cmd(words) => *words.allocator(),
+        Node::Pipe(inner, _) | Node::Io(_, inner) => allocator(inner),
+    }
 }
 
 // Takes a guard apart.

@@ -1,20 +1,22 @@
 use Rattle.duct_run.proofs.Seeing.{views_of}
+use Rattle.duct.specs.Launched.{ReadFails, Reads, reading}
 use Rattle.duct_guard.specs.Under.{guard_views}
-use Rattle.duct_guard.proofs.Reading.{left_of, never_cleared, read_done, read_grows}
+use Rattle.duct_guard.proofs.Reading.{done, grows, left_of, never_cleared}
 use Rattle.duct_guard.proofs.under.read_fixed.Goals as goal
 
 pub returns-clause-read : goal.returns-clause-read
 returns-clause-read g c =
     let views = guard_views (views_of g.S.System g.S.End.Numbered g.S.Child.Child g.S.Feed.Job g.S.Drain.Job) in
     let made = c.new-guarded.ensures in
-    let done = read_done views g.H.Hook.allows g.H.Hook.refuses c.args.expression.now g.S.System.may_read g.S.Reader.Read.remaining (c.new-guarded.result, c.args.pool.now)
+    let called = done views g.H.Hook.allows g.H.Hook.refuses c.args.expression.now reading (Reads views g.S.System.may_read g.S.Reader.Read.remaining)
+    (ReadFails views g.S.System.may_read g.S.Reader.Read.remaining) (c.new-guarded.result, c.args.pool.now)
     c.read-text.result (c.read-text.new.sys, c.read-text.new.pool) c.read-text.ensures.text c.read-text.ensures.failed in
-    let nothing = never_cleared _ _ _ _ made.journal (read_grows views _ _ _ _ _ _ _ _ done) c.ended.ensures.begun in
+    let nothing = never_cleared _ _ _ _ made.journal (grows views _ _ _ _ _ _ _ _ _ called) c.ended.ensures.begun in
     record {
       begun = c.new-guarded.result;
       inner_is = made.inner;
       journal_is = made.journal;
       ended = c.read-text.new.sys;
-      does = rw c.ended.ensures.returned done;
+      done = rw c.ended.ensures.returned called;
       is_left = left_of _ _ _ _ _ _ nothing c.ended.ensures.left;
     }
