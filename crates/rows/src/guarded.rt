@@ -74,7 +74,7 @@ fn read_text<S: System + Drop, P: Policy + Drop>(
         held,
         running,
         returned,
-    } = read_under(policy, rt, alloc, system, &mut pool, expression);
+    } = read_under(rt, system, &mut pool, policy, expression);
     let journal = journal_text(alloc, system.journal(), Values::Shown)?;
     let (ends, children) = (held.ends, held.children);
     match returned {

@@ -7,7 +7,7 @@ use crate::tasks::{keep_running, run_tasks};
 use crate::texts::{push_done, push_error, push_polled, push_read, push_run};
 use duct::{Clock, Error, Handle, System};
 use duct_script::is_balanced;
-use duct_tasks::{Until, read_until, run_until};
+use duct_tasks::{Deadline, Until, read_until, run_until};
 use rows_table::{
     Table, TableError, Tree, Writing, children_started, first_word, limits, push_journal,
     push_pool, push_trace, written_with,
@@ -222,13 +222,18 @@ impl<'t, 'r, R: Wait + Threads, M: Machine> Calls<'t, 'r, R, M> {
     fn run(&mut self, text: &str) -> Result<(), TableError> {
         let limits = limits(text)?;
         let tree = self.tree()?;
-        let (rt, alloc) = (self.rt, self.alloc);
+        let rt = self.rt;
         let (system, pool, clock) = self.machine.stage();
         let ran = match limits {
             None => tree.run(rt, system, pool).map(Until::Done),
             Some((length, grace)) => {
                 let moment = clock.now().saturating_add(length);
-                run_until(&tree, alloc, rt, clock, moment, grace, system, pool)
+                let deadline = Deadline {
+                    clock,
+                    moment,
+                    grace,
+                };
+                run_until(rt, system, pool, &tree, &deadline)
             }
         };
         self.is_kept = matches!(ran, Ok(Until::Done(_)));
@@ -239,13 +244,18 @@ impl<'t, 'r, R: Wait + Threads, M: Machine> Calls<'t, 'r, R, M> {
     fn read(&mut self, text: &str) -> Result<(), TableError> {
         let limits = limits(text)?;
         let tree = self.tree()?;
-        let (rt, alloc) = (self.rt, self.alloc);
+        let rt = self.rt;
         let (system, pool, clock) = self.machine.stage();
         let read = match limits {
             None => tree.read(rt, system, pool).map(Until::Done),
             Some((length, grace)) => {
                 let moment = clock.now().saturating_add(length);
-                read_until(&tree, alloc, rt, clock, moment, grace, system, pool)
+                let deadline = Deadline {
+                    clock,
+                    moment,
+                    grace,
+                };
+                read_until(rt, system, pool, &tree, &deadline)
             }
         };
         self.is_kept = match &read {

@@ -2,7 +2,7 @@
 //! ends.
 use crate::texts::{push_error, push_output};
 use duct::{Clock, Error, Output, Pool, System};
-use duct_tasks::{AtFailure, Progress, Restarts, Tasks, keep, run_all};
+use duct_tasks::{AtFailure, Progress, Restarts, Service, Tasks, keep, run_all};
 use rows_table::{TableError, Tree, duration, first_word};
 use std::alloc::{AllocError, Global};
 use std::cell::Cell;
@@ -48,7 +48,7 @@ pub fn run_tasks<S: System>(
         at_failure,
     };
     let tell = |_: usize, _: Progress<'_>| {};
-    match run_all(tasks, alloc, rt, tell, system, pool) {
+    match run_all(rt, alloc, system, pool, tasks, tell) {
         Ok(ends) => {
             for end in &ends {
                 push_end(answers, end)?;
@@ -75,7 +75,12 @@ pub fn keep_running<S: System, C: Clock>(
     let asked = Cell::new(0_u64);
     let stop = || noes <= asked.replace(asked.get().saturating_add(1));
     let tell = |_: u32, _: Progress<'_>| {};
-    let kept = keep(tree, &restarts, rt, clock, stop, tell, system, pool);
+    let service = Service {
+        expression: tree,
+        restarts,
+        clock,
+    };
+    let kept = keep(rt, system, pool, &service, stop, tell);
     write!(answers, "{:?} after {}", kept.why, kept.starts)?;
     match &kept.last {
         Some(end) => Ok(answers.push_str(": ").and(push_end(answers, end))?),
