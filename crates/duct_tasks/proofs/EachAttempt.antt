@@ -75,11 +75,8 @@ module _ {P T E : Type 0} {attempt : P → Result T E → P → Type 0} {tells :
       over = subst (λ (n : ℕ). IfErr result (λ e. tells e false ⊎ (n ≡ most))) (sym so_far.count) over;
     }
 
-    at_most : (most : ℕ) (result : Result T E) → next ≡ most → IfErr result (λ e. tells e false ⊎ (next ≡ most))
-    at_most most (Ok value) is = tt
-    at_most most (Err e) is = inr is
-
     -- the next is the last that is allowed
     pub gives_up : (most : ℕ) → next ≡ most → (result : Result T E) {after : P} → attempt between result after
         → Attempts attempt tells most before result after
-    gives_up most is result did = ends most (omega (arith, is)) did (at_most most result is)
+    gives_up most is (Ok value) did = ends most (omega (arith, is)) did tt
+    gives_up most is (Err e) did = ends most (omega (arith, is)) did (inr is)

@@ -1,7 +1,4 @@
-use Rattle.std.proofs.Common.{arith, inl, refl, subst}
-use Rattle.duct_run.proofs.Seeing.{views_of}
-use Rattle.duct.specs.Launched.{draining}
-use Rattle.duct_tasks.specs.Turns.{IsStart}
+use Rattle.std.proofs.Common.{arith, inl, refl}
 use Rattle.duct_tasks.proofs.EachAttempt.{ends, failed, first, gives_up}
 use Rattle.duct_tasks.proofs.expression.start_attempts.Goals as goal
 
@@ -10,25 +7,17 @@ loop-init g c = first
 
 pub loop-preserved : goal.loop-preserved
 loop-preserved g c =
-    failed c.loop.invariant _ (omega arith) c.in-Err.error (
-      subst (λ r. IsStart (views_of g.S.System g.S.End.Numbered g.S.Child.Child g.S.Feed.Job g.S.Drain.Job) g.H.Hook.allows g.H.Hook.refuses c.args.expression.now draining (c.loop.system, c.loop.pool) r (c.start_once.new.system, c.start_once.new.pool)) c.in-Err.is
-          c.start_once.ensures,
-      record { shown = _; shows = refl; says = record { met = c.if-not-is_transient.ensures } },
-    )
+    failed c.loop.invariant _ (omega arith) c.in-Err.error
+    (c.in-Err.ensures, record { shown = _; shows = refl; says = record { met = c.if-not-is_transient.ensures } })
 
 pub returns-in-Ok : goal.returns-in-Ok
-returns-in-Ok g c =
-    ends c.loop.invariant c.args.most (omega (arith, c.loop-test.true))
-    (subst (λ r. IsStart (views_of g.S.System g.S.End.Numbered g.S.Child.Child g.S.Feed.Job g.S.Drain.Job) g.H.Hook.allows g.H.Hook.refuses c.args.expression.now draining (c.loop.system, c.loop.pool) r (c.start_once.new.system, c.start_once.new.pool)) c.in-Ok.is
-    c.start_once.ensures) tt
+returns-in-Ok g c = ends c.loop.invariant c.args.most (omega (arith, c.loop-test.true)) c.in-Ok.ensures tt
 
 pub returns-then-not-is_transient : goal.returns-then-not-is_transient
 returns-then-not-is_transient g c =
-    ends c.loop.invariant c.args.most (omega (arith, c.loop-test.true))
-    (subst (λ r. IsStart (views_of g.S.System g.S.End.Numbered g.S.Child.Child g.S.Feed.Job g.S.Drain.Job) g.H.Hook.allows g.H.Hook.refuses c.args.expression.now draining (c.loop.system, c.loop.pool) r (c.start_once.new.system, c.start_once.new.pool)) c.in-Err.is
-    c.start_once.ensures) (inl (record { shown = _; shows = refl; says = record { met = c.if-not-is_transient.ensures } }))
+    ends c.loop.invariant c.args.most (omega (arith, c.loop-test.true)) c.in-Err.ensures
+    (inl (record { shown = _; shows = refl; says = record { met = c.if-not-is_transient.ensures } }))
 
 pub returns : goal.returns
 returns g c =
-    gives_up c.loop.invariant c.args.most (omega (arith, c.loop-test.false, c.loop.auto)) c.start_once-2.result
-    c.start_once-2.ensures
+    gives_up c.loop.invariant c.args.most (omega (arith, c.loop-test.false, c.loop.auto)) c.start_once-2.result c.start_once-2.ensures

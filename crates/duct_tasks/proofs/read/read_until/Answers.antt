@@ -25,25 +25,13 @@ pub returns-in_err-text_of-in-Done : goal.returns-in_err-text_of-in-Done
 returns-in_err-text_of-in-Done g c =
     let p = err_from_is_err_and c.from_residual-in_err-text_of-in-Done.result c.from_residual-in_err-text_of-in-Done.ensures.1 in
     let refused = c.in_err-text_of-in-Done.ensures.err in
-    rw (p.1, p.2) (inr (inr (
-      refused.0,
-      record {
-        captured = c.in_ok-captured.captured;
-        is_captured = c.in_ok-captured.ensures.tree;
-        output = c.in-Done.output;
-        launched = rw c.in-Done.is at c.in_ok-output.ensures.done;
-        bytes = refused.1;
-      },
-    )))
+    let launched = rw c.in-Done.is at c.in_ok-output.ensures.done in
+    rw (p.1, p.2) (inr (inr (refused.0, record { captured = _; is_captured = c.in_ok-captured.ensures.tree; output = c.in-Done.output; launched = launched; bytes = refused.1 })))
 
 pub returns-in-Done : goal.returns-in-Done
-returns-in-Done g c = record {
-  captured = c.in_ok-captured.captured;
-  is_captured = c.in_ok-captured.ensures.tree;
-  output = c.in-Done.output;
-  launched = rw c.in-Done.is at c.in_ok-output.ensures.done;
-  bytes = c.in_ok-text_of-in-Done.ensures.ok;
-}
+returns-in-Done g c =
+    let launched = rw c.in-Done.is at c.in_ok-output.ensures.done in
+    record { captured = _; is_captured = c.in_ok-captured.ensures.tree; output = c.in-Done.output; launched = launched; bytes = c.in_ok-text_of-in-Done.ensures.ok }
 
 pub returns : goal.returns
 returns g c =
@@ -57,10 +45,7 @@ returns g c =
     rw (c.saturating_add-last.ensures, c.saturating_add.ensures, c.from_secs.ensures) refl in
     let gets : PoolGets views c.in-Late.running.children c.launch_until.new.pool c.give_all.new.pool =
     subst (λ children. PoolGets views children c.launch_until.new.pool c.give_all.new.pool) c.into_parts-children.ensures.children c.give_all.ensures in (
-      record {
-        late = rw c.in-Late.is at c.in_ok-output.ensures.late;
-        patient = rw c.in-Late.is at c.in_ok-output.ensures.grace;
-      },
+      record { late = rw c.in-Late.is at c.in_ok-output.ensures.late; patient = rw c.in-Late.is at c.in_ok-output.ensures.grace },
       record {
         captured = captured;
         is_captured = c.in_ok-captured.ensures.tree;

@@ -1,5 +1,4 @@
-use Rattle.std.proofs.Common.{arith, inl, refl, subst}
-use Rattle.duct_tasks.specs.Turns.{FnReturnsAtPairMut}
+use Rattle.std.proofs.Common.{arith, inl, refl}
 use Rattle.duct_tasks.proofs.EachAttempt.{ends, failed, first, gives_up}
 use Rattle.duct_tasks.proofs.repeated.attempts.Goals as goal
 
@@ -9,22 +8,19 @@ loop-init g c = first
 pub loop-preserved : goal.loop-preserved
 loop-preserved g c =
     failed c.loop.invariant _ (omega arith) c.in-Err.error (
-      subst (λ r. FnReturnsAtPairMut g.A.Fn c.args.attempt (c.loop.system, c.loop.pool) r (c.attempt.new.arg2, c.attempt.new.arg3)) c.in-Err.is
-          (record { first = _; second = _; shows = (refl, refl); left = _; met = c.attempt.ensures; leaves = (refl, refl) }),
+      record { first = _; second = _; shows = (refl, refl); left = _; met = c.in-Err.ensures; leaves = (refl, refl) },
       record { shown = _; shows = refl; says = record { met = c.if-not-is_transient.ensures } },
     )
 
 pub returns-in-Ok : goal.returns-in-Ok
 returns-in-Ok g c =
     ends c.loop.invariant c.args.most (omega (arith, c.loop-test.true))
-    (subst (λ r. FnReturnsAtPairMut g.A.Fn c.args.attempt (c.loop.system, c.loop.pool) r (c.attempt.new.arg2, c.attempt.new.arg3)) c.in-Ok.is
-    (record { first = _; second = _; shows = (refl, refl); left = _; met = c.attempt.ensures; leaves = (refl, refl) })) tt
+    (record { first = _; second = _; shows = (refl, refl); left = _; met = c.in-Ok.ensures; leaves = (refl, refl) }) tt
 
 pub returns-then-not-is_transient : goal.returns-then-not-is_transient
 returns-then-not-is_transient g c =
     ends c.loop.invariant c.args.most (omega (arith, c.loop-test.true))
-    (subst (λ r. FnReturnsAtPairMut g.A.Fn c.args.attempt (c.loop.system, c.loop.pool) r (c.attempt.new.arg2, c.attempt.new.arg3)) c.in-Err.is
-    (record { first = _; second = _; shows = (refl, refl); left = _; met = c.attempt.ensures; leaves = (refl, refl) }))
+    (record { first = _; second = _; shows = (refl, refl); left = _; met = c.in-Err.ensures; leaves = (refl, refl) })
     (inl (record { shown = _; shows = refl; says = record { met = c.if-not-is_transient.ensures } }))
 
 pub returns : goal.returns

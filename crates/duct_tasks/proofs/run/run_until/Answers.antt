@@ -20,10 +20,7 @@ returns-in-Late g c =
     let l = rw c.in-Late.is at c.in_ok-output.ensures.stopped in
     let tree = tree_view c.args.expression.now in
     let added = added_between views c.args.sys.now c.launch_until.new.sys in (
-      record {
-        late = rw c.in-Late.is at c.in_ok-output.ensures.late;
-        patient = rw c.in-Late.is at c.in_ok-output.ensures.grace;
-      },
+      record { late = rw c.in-Late.is at c.in_ok-output.ensures.late; patient = rw c.in-Late.is at c.in_ok-output.ensures.grace },
       record {
         asked = l.asked;
         is_late = (numbers_of views c.in-Late.running, l.makes.0);
