@@ -360,13 +360,8 @@ impl<S: System, R: Wait, H: Hook> Shell<S, R, H> {
             moment,
             grace,
         };
-        match run_until(
-            &self.rt,
-            &mut self.system,
-            &mut self.pool,
-            expression,
-            &deadline,
-        ) {
+        let (system, pool) = (&mut self.system, &mut self.pool);
+        match run_until(&self.rt, system, pool, expression, &deadline) {
             Ok(until) => Ok(until),
             Err(error) => Err(self.failure(entries, error)),
         }
@@ -399,13 +394,8 @@ impl<S: System, R: Wait, H: Hook> Shell<S, R, H> {
             moment,
             grace,
         };
-        match read_until(
-            &self.rt,
-            &mut self.system,
-            &mut self.pool,
-            expression,
-            &deadline,
-        ) {
+        let (system, pool) = (&mut self.system, &mut self.pool);
+        match read_until(&self.rt, system, pool, expression, &deadline) {
             Ok(until) => Ok(until),
             Err(error) => Err(self.failure(entries, error)),
         }

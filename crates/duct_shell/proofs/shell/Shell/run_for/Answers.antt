@@ -1,17 +1,10 @@
-use Rattle.std.specs.Duration.{as_nanos}
 use Rattle.duct_shell.proofs.shell.Shell.run_for.Goals as goal
 
 pub returns-in-Ok-clause-calls : goal.returns-in-Ok-clause-calls
 returns-in-Ok-clause-calls g c = (
   c.begin-entries.new.system,
   c.begin-entries.ensures.begins,
-  record {
-    now = c.now.result;
-    shown = c.now.ensures;
-    moment = as_nanos c.saturating_add-moment.result;
-    counted = c.saturating_add-moment.ensures;
-    done = c.in-Ok.ensures;
-  },
+  record { now = _; shown = c.now.ensures; moment = _; counted = c.saturating_add-moment.ensures; done = c.in-Ok.ensures },
 )
 
 pub returns-in-Err-clause-calls : goal.returns-in-Err-clause-calls
@@ -19,13 +12,7 @@ returns-in-Err-clause-calls g c = (
   c.begin-entries.new.system,
   c.begin-entries.ensures.begins,
   (
-    record {
-      now = c.now.result;
-      shown = c.now.ensures;
-      moment = as_nanos c.saturating_add-moment.result;
-      counted = c.saturating_add-moment.ensures;
-      done = rw (c.failure.ensures.error) c.in-Err.ensures;
-    },
+    record { now = _; shown = c.now.ensures; moment = _; counted = c.saturating_add-moment.ensures; done = rw (c.failure.ensures.error) c.in-Err.ensures },
     rw (← c.begin-entries.ensures.entries) c.failure.ensures.request,
   ),
 )
