@@ -1,5 +1,7 @@
 -- What `trace judge` says of words and of the entries of a journal, and what `trace replay` ran.
-use Rattle.std.specs.Prelude.{ℕ, List, [], ◌≡◌, Ok, None}
+use Rattle.std.specs.Prelude.{ℕ, List, [], ◌≡◌, Ok, None, map, string_bytes}
+use Rattle.std.specs.declared.alloc.Global.{Global}
+use Rattle.std.specs.declared.string.String.{String}
 use Rattle.duct_system.specs.EntryView.{EntryView}
 use Rattle.duct_system.specs.Journal.{JournalView}
 use Rattle.duct_start.specs.Chain.{Allows, Refuses}
@@ -18,9 +20,10 @@ IsJudged {E} {H} allows refuses number_of words recorded holds =
     × ((verdict : Verdict) × (made : JournalView)
     × Judges allows refuses number_of tree recorded verdict made × holds verdict)
 
--- this holds of a replay of a recording, from before its first request to its end, and no request
--- differed
-abbrev pub IsReplayed : RecordingView → (ReplayView → ReplayView → Type 0) → Type 0
-IsReplayed recording holds =
+-- this was done for these words over a replay of a recording, from before its first request to its
+-- end, and to two writers, and no request differed
+abbrev pub IsReplayed : {O W : Type 0} → RecordingView → List (String Global)
+    → (List (List ℕ) → ReplayView → ReplayView → O → O → W → W → Type 0) → O × O → W × W → Type 0
+IsReplayed recording words does out err =
     (begun ended : ReplayView) × (begun.recording ≡ recording) × (begun.journal.entries ≡ [])
-    × (ended.difference ≡ None) × holds begun ended
+    × (ended.difference ≡ None) × does (map string_bytes words) begun ended out.0 out.1 err.0 err.1

@@ -174,8 +174,9 @@ pub fn judge_line<O: Write, E: Write>(
 ) -> u8
     ensures yes { result ≡ 0 → IsJudged ⟦<NoHook as Hook>⟧.allows ⟦<NoHook as Hook>⟧.refuses
         ⟦<ReplayEnd as Numbered>⟧.number_of (map string_bytes words.now) (map entry_view entries.now)
-        (λ verdict. verdict ≡ Verdict.Yes)
-        × Appends (O.contents out.old) (O.contents out.new) (codes "yes\n") × (err.new ≡ err.old) }
+        (λ verdict. verdict ≡ Verdict.Yes) }
+    ensures says { result ≡ 0 → Appends (O.contents out.old) (O.contents out.new) (codes "yes\n")
+        × (err.new ≡ err.old) }
     ensures no { result ≡ 1 → IsJudged ⟦<NoHook as Hook>⟧.allows ⟦<NoHook as Hook>⟧.refuses
         ⟦<ReplayEnd as Numbered>⟧.number_of (map string_bytes words.now) (map entry_view entries.now)
         (λ verdict. verdict ≢ Verdict.Yes) × (err.new ≡ err.old) }
@@ -235,14 +236,12 @@ pub fn replay<O: Write, E: Write>(
     out: &mut O,
     err: &mut E,
 ) -> u8
-    ensures text { result ≡ 0 → IsReplayed recording (λ begun ended. WritesText
+    ensures text { result ≡ 0 → IsReplayed recording args.now (WritesText
         ⟦<Replay as Viewed>⟧.views ⟦<NoHook as Hook>⟧.allows ⟦<Replay as System>⟧.may_read
-        ⟦<ReplayReader as Read>⟧.remaining O.contents (map string_bytes args.now) begun ended
-        out.old out.new err.old err.new) }
-    ensures usage { result ≡ 2 → IsReplayed recording (λ begun ended. WritesUsage
+        ⟦<ReplayReader as Read>⟧.remaining O.contents) (out.old, out.new) (err.old, err.new) }
+    ensures usage { result ≡ 2 → IsReplayed recording args.now (WritesUsage
         ⟦<Replay as Viewed>⟧.views ⟦<NoHook as Hook>⟧.allows ⟦<Replay as System>⟧.may_read
-        ⟦<ReplayReader as Read>⟧.remaining E.contents (map string_bytes args.now) begun ended
-        out.old out.new err.old err.new) }
+        ⟦<ReplayReader as Read>⟧.remaining E.contents) (out.old, out.new) (err.old, err.new) }
     ensures status { result ≤ 3 }
 {
     let mut replay = Replay::new(alloc, recording);
