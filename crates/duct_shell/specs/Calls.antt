@@ -1,26 +1,49 @@
 -- What a call of a shell does that starts an expression, from where it begins: its journal is that
 -- of the last start, unless it is kept; a limit of time counts from then.
-use Rattle.std.specs.Prelude.{ℕ, ◌+◌, ◌⊎◌, Bool, true, false, ◌≡◌, List, Ok, Err, min}
+use Rattle.std.specs.Prelude.{ℕ, ◌+◌, ◌⊎◌, Bool, true, false, ◌≡◌, List, Ok, Err, min, Some, None, IfSome, map, string_bytes}
 use Rattle.std.specs.Duration.{as_nanos, max_nanos}
 use Rattle.std.specs.declared.alloc.Global.{Global}
 use Rattle.std.specs.declared.option.Option.{Option}
 use Rattle.std.specs.declared.result.Result.{Result}
 use Rattle.std.specs.declared.string.String.{String}
 use Rattle.std.specs.declared.time.Duration.{Duration}
+use Rattle.std.specs.Arc.{arc_value}
+use Rattle.std.specs.declared.sync.Arc.{Arc}
+use Rattle.std.specs.declared.vec.Vec.{Vec}
 use Rattle.duct_base.specs.Pool.{PoolView}
 use Rattle.duct_system.specs.Journal.{JournalView, IsCleared}
 use Rattle.duct_system.specs.SystemViews.{SystemViews}
 use Rattle.duct_system.specs.Trace.{segment}
 use Rattle.duct_system.specs.declared.error.Error.{Error}
 use Rattle.duct_system.specs.declared.error.Error.TheVariants.{Memory}
+use Rattle.duct_system.specs.declared.system.Output.{Output}
 use Rattle.duct_start.specs.Chain.{Allows, Refuses}
+use Rattle.duct_start.specs.TreeView.{TreeView, around, command, pipe, stderr_capture, stdout_capture, unchecked}
 use Rattle.duct_running.specs.Stored.{Bytes}
 use Rattle.duct_handle.specs.HandleView.{HandleView}
 use Rattle.duct.specs.Launched.{Launched, ReadFails, Reads, RunFailed, reading}
 use Rattle.duct.specs.declared.expression.Expression.{Expression}
-use Rattle.duct_tasks.specs.Turns.{IsStart}
+use Rattle.duct.specs.TreeView.{tree_view}
+use Rattle.duct_tasks.specs.Turns.{IsStart, IsRun}
 use Rattle.duct_shell.specs.FailedRequest.{Names}
 use Rattle.duct_shell.specs.declared.failure.Failure.{Failure}
+use Rattle.duct_shell.specs.declared.capture.Captured.{Captured}
+
+-- the tree with both streams captured, whose failure is no error
+abbrev pub with_captures : {E H : Type 0} → TreeView E H → TreeView E H
+with_captures tree = around unchecked (around stderr_capture (around stdout_capture tree))
+
+-- the words of the command of a tree that has one alone
+abbrev pub only_command : {E H : Type 0} → TreeView E H → Option (List (List ℕ))
+only_command (command words) = Some words
+only_command (pipe left right) = None
+only_command (around modifier tree) = only_command tree
+
+-- if there are words, they are those of the only command of the tree
+abbrev pub AreCommand : {E H : Type 0} → TreeView E H
+    → Option (Arc (Vec (String Global) Global) Global) → Type 0
+AreCommand tree words = IfSome words
+    (λ words. only_command tree ≡ Some (map string_bytes (arc_value words).items))
 
 module _ {S : Type 0} (journal : S → JournalView) where
   -- the journal was cleared; or it is kept, and nothing was done
@@ -39,8 +62,7 @@ module _ {S : Type 0} (journal : S → JournalView) where
       × (does (begun, before.1) (Err failure.error) after
       × Names (segment (journal begun).entries (journal after.0).entries) failure.request)
 
--- this was done until a moment, in nanoseconds: the one this long after a time that the clock may
--- show
+-- this was done until a moment, in nanoseconds: this long after a time that the clock may show
 pub record FromNow {P T : Type 0} (shows : Duration → Type 0) (limit : Duration)
     (does : (Duration → Type 0) → ℕ → P → T → P → Type 0) (before : P) (result : T) (after : P)
     : Type 0 where
@@ -65,3 +87,17 @@ module _ {S E C F D : Type 0} (views : SystemViews S E C F D (Unit {0}) Bytes) {
       before.1 after.1 (Reads views may remaining text)
   IsRead may remaining before (Err e) after = RunFailed views allows refuses reading root before.0
       after.0 before.1 after.1 (ReadFails views may remaining) e
+
+  -- what `Expression::run` promises, of the expression with both streams captured
+  abbrev pub IsRunInside : S × PoolView C → Result Output Error → S × PoolView C → Type 0
+  IsRunInside before result after =
+      (inside : Expression E H) × (tree_view inside ≡ with_captures (tree_view root))
+      × IsRun views allows refuses inside before result after
+
+  -- a run whose output is kept, with the words of its command; or it failed, or there was no memory
+  -- for its nodes and nothing was done
+  abbrev pub IsRunCaptured : S × PoolView C → Result Captured Error → S × PoolView C → Type 0
+  IsRunCaptured before (Ok captured) after = IsRunInside before (Ok captured.output) after
+      × AreCommand (tree_view root) captured.command
+  IsRunCaptured before (Err e) after = IsRunInside before (Err e) after
+      ⊎ ((e ≡ Memory) × (after.0 ≡ before.0) × (after.1 ≡ before.1))

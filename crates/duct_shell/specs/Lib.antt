@@ -1,9 +1,7 @@
 pub mod Calls
-pub mod Captures
 pub mod Converted
 pub mod Copies
 pub mod EntryForm
 pub mod FailedRequest
 pub mod Lines
-pub mod Reads
 pub mod Wraps

@@ -4,8 +4,7 @@ ghost use Rattle.duct_system.specs.Status.{is_success};
 ghost use Rattle.duct_system.specs.declared.error.Error.TheVariants.{Memory};
 ghost use Rattle.duct_tree.specs.NodeView.{node_view};
 ghost use Rattle.duct.specs.TreeView.{tree_view};
-ghost use Rattle.duct_shell.specs.Calls.{Calls};
-ghost use Rattle.duct_shell.specs.Captures.{AreCommand, IsRunCaptured, with_captures};
+ghost use Rattle.duct_shell.specs.Calls.{AreCommand, Calls, IsRunCaptured, with_captures};
 
 use crate::failed_run::FailedRun;
 use crate::failure::Failure;

@@ -225,8 +225,7 @@ module _ {S E C F D : Type 0} (views : SystemViews S E C F D (Unit {0}) Bytes) {
     pub asked : 0 < kept.starts → says false
     pub why : IsWhy most says kept.why kept.starts kept.last
 
-  -- what a start does that returns a handle, as `Expression::start` and `Expression::reader`
-  -- promise it
+  -- what `Expression::start` and `Expression::reader` promise
   abbrev pub IsStart : StartKind → S × PoolView C → Result HandleView Error → S × PoolView C
       → Type 0
   IsStart kind before (Ok handle) after = Launched views allows kind root before.0 after.0
@@ -241,8 +240,7 @@ module _ {S E C F D : Type 0} (views : SystemViews S E C F D (Unit {0}) Bytes) {
   IsRun before (Err e) after = RunFailed views allows refuses draining root before.0 after.0
       before.1 after.1 (Fails views) e
 
--- a call of f through a `&`, at a `&mut` to each of two values, may return r, and leave two others
--- there
+-- a call of f through a `&`, at a `&mut` to each of two values, may return r and leave two others
 pub record FnReturnsAtPairMut {F A B R : Type 0}
     (g : Shared F (MutBor A × (MutBor B × Unit {0})) (R × (MutBor A × (MutBor B × Unit {0}))))
     (f : F) (before : A × B) (r : R) (after : A × B) : Type 0 where

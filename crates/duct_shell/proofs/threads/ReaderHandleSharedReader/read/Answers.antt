@@ -10,7 +10,7 @@ use Rattle.duct_running.specs.Polled.{Polled}
 use Rattle.duct_running.specs.Stored.{Bytes}
 use Rattle.duct_handle.specs.HandleView.{HandleView, SeenView}
 use Rattle.duct_handle.specs.Reads.{ReadsAs}
-use Rattle.duct_shell.specs.Reads.{HasOutput, ReadsOnce}
+use Rattle.duct_shell.specs.Converted.{HasOutput, ReadsOnce}
 use Rattle.duct_shell.proofs.threads.ReaderHandleSharedReader.read.Goals as goal
 
 -- what a read with a token returns, without what its token knows
