@@ -1,3 +1,4 @@
+pub mod EntryForm
 pub mod Executable
 pub mod Pool
 pub mod Transfer

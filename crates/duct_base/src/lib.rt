@@ -11,6 +11,7 @@ pub mod pause;
 pub mod pool;
 pub mod shared;
 pub mod spawn;
+pub mod text;
 pub mod transfer;
 pub mod watched;
 pub mod worker;

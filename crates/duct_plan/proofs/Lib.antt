@@ -1,3 +1,2 @@
 pub mod Planned
 pub mod Visited
-pub mod Written

@@ -1,31 +1,13 @@
 -- The text of a plan: a line for each request, with its place.
-use Rattle.std.specs.Prelude.{ℕ, List, [], ◌∷◌, ◌++◌, ◌+◌, codes, drop, length, Some, None, if◌then◌else◌}
-use Rattle.std.specs.Fmt.{decimal}
+use Rattle.std.specs.Prelude.{ℕ, List, [], ◌∷◌, ◌+◌, codes, drop, length, if◌then◌else◌}
 use Rattle.std.specs.declared.option.Option.{Option}
 use Rattle.duct_system.specs.declared.spec.Stream.{Stream}
 use Rattle.duct_system.specs.declared.spec.Stream.TheVariants.{In, Out, Err}
+use Rattle.duct_status.specs.Form.{Form, plain, quote, before, joined, each_form, of_text, of_number, text_of}
+use Rattle.duct_base.specs.EntryForm.{folder_form}
 use Rattle.duct_start.specs.Plan.{Plan, is_canonical, program_of}
 use Rattle.duct_start.specs.Step.{Item, AskEnvironment, AskPipe, AskOpenRead, AskCreate, AskCanonicalize, AskSpawn, AskFeed, AskDrain, AskReader}
 use Rattle.duct_start.specs.Surroundings.{Surroundings, Target, Parents, Nothing, ReaderAt, WriterAt, FileAt, Lends, VariableChange, Sets, Removes, Replaces}
-use Rattle.duct_tree.specs.Text.{Form, plain, quote, before, joined, form_text, is_form_printable}
-
--- words, then a text in quotes
-abbrev pub of_text : List ℕ → List ℕ → Form
-of_text words text = joined (plain words ∷ quote text ∷ [])
-
--- words, then the place of a request
-abbrev pub of_place : List ℕ → ℕ → Form
-of_place words place = plain (words ++ decimal place)
-
--- the forms of some values, one after the other
-abbrev pub each_form : {A : Type 0} → (A → Form) → List A → Form
-each_form form [] = plain []
-each_form form (value ∷ others) = before (form value) (each_form form others)
-
--- the folder of a command, if it has one
-abbrev pub folder_form : Option (List ℕ) → Form
-folder_form (Some folder) = of_text (codes " in ") folder
-folder_form None = plain []
 
 -- where a stream goes that goes to this stream of the parent
 abbrev pub parents_text : Stream → Stream → List ℕ
@@ -39,9 +21,9 @@ parents_text stream Err = codes "the parent's stderr"
 abbrev pub target_form : {E : Type 0} → Stream → Target E → Form
 target_form stream (Parents parents) = plain (parents_text stream parents)
 target_form stream Nothing = plain (codes "nothing")
-target_form stream (ReaderAt place) = of_place (codes "pipe ") place
-target_form stream (WriterAt place) = of_place (codes "pipe ") place
-target_form stream (FileAt place) = of_place (codes "file ") place
+target_form stream (ReaderAt place) = of_number (codes "pipe ") place
+target_form stream (WriterAt place) = of_number (codes "pipe ") place
+target_form stream (FileAt place) = of_number (codes "file ") place
 target_form stream (Lends end) = plain (codes "an end of the caller")
 
 -- words, then a variable with its value
@@ -64,7 +46,7 @@ program_form found words =
 -- how many hooks may change the command, if any
 abbrev pub hooks_form : {A : Type 0} → List A → Form
 hooks_form [] = plain []
-hooks_form (hook ∷ hooks) = of_place (codes ", hooks ") (length (hook ∷ hooks))
+hooks_form (hook ∷ hooks) = of_number (codes ", hooks ") (length (hook ∷ hooks))
 
 -- a stream of a command, by its name, and where it goes
 unfoldable pub stream_form : {E : Type 0} → List ℕ → Stream → Target E → Form
@@ -92,14 +74,14 @@ item_form (AskOpenRead path) = of_text (codes "open of ") path
 item_form (AskCreate path) = of_text (codes "create of ") path
 item_form (AskCanonicalize program) = of_text (codes "canonical path of ") program
 item_form (AskSpawn found words) = spawn_form found words
-item_form (AskFeed place bytes) = of_place (codes "input worker of pipe ") place
-item_form (AskDrain place) = of_place (codes "capture worker of pipe ") place
-item_form (AskReader place) = of_place (codes "reader of pipe ") place
+item_form (AskFeed place bytes) = of_number (codes "input worker of pipe ") place
+item_form (AskDrain place) = of_number (codes "capture worker of pipe ") place
+item_form (AskReader place) = of_number (codes "reader of pipe ") place
 
 -- the line of the request at this place
 abbrev pub line_form : {E H : Type 0} → ℕ → Item E H → Form
 line_form place item =
-    joined (of_place [] place ∷ plain (codes " ") ∷ item_form item ∷ plain (codes "\n") ∷ [])
+    joined (of_number [] place ∷ plain (codes " ") ∷ item_form item ∷ plain (codes "\n") ∷ [])
 
 -- a line for each request, the first of which has this place
 abbrev pub lines_form : {E H : Type 0} → ℕ → List (Item E H) → Form
@@ -108,6 +90,4 @@ lines_form place (item ∷ items) = before (line_form place item) (lines_form (p
 
 -- the text of a plan, where all texts of it are printable ASCII; else no promise
 abbrev pub plan_text : {E H : Type 0} → Plan E H → Option (List ℕ)
-plan_text plan =
-    let lines = lines_form 0 plan.items in
-    if is_form_printable lines then Some (form_text lines) else None
+plan_text plan = text_of (lines_form 0 plan.items)

@@ -1,16 +1,16 @@
 //! The text of a plan: a line for each request, with its place.
 ghost use Rattle.std.specs.Prelude.{◌≡◌, codes, map, string_bytes};
 ghost use Rattle.std.specs.Fmt.{DisplaysOnOk};
-ghost use Rattle.std.specs.Option.{option_copied};
 ghost use Rattle.duct_system.specs.SpecView.{var_view};
-ghost use Rattle.duct_tree.specs.Text.{printed};
+ghost use Rattle.duct_status.specs.Form.{each_form, printed};
 ghost use Rattle.duct_plan.specs.PlanView.{change_of, found_of, item_of, plan_view, target_of};
-ghost use Rattle.duct_plan.specs.PlanForm.{change_form, command_form, each_form, folder_form, hooks_form, item_form, line_form, of_text, of_variable, parents_text, plan_text, program_form, spawn_form, stream_form};
+ghost use Rattle.duct_plan.specs.PlanForm.{change_form, command_form, hooks_form, item_form, line_form, of_variable, parents_text, plan_text, program_form, spawn_form, stream_form};
 
 use crate::items::{Item, Plan, Surroundings, Target, VariableChange};
 use crate::requests::{is_canonical, program_of};
 use duct::Stream;
 use duct_base::names::EnvNameString;
+use duct_base::text::{write_arguments, write_folder};
 use std::collections::btree_map::Iter;
 use std::fmt::{self, Formatter, Write};
 
@@ -102,28 +102,6 @@ impl<E, H> Surroundings<'_, E, H> {
             return f.write_str("?");
         }
         write!(f, "{:?}", program_of(words))
-    }
-}
-
-// Writes arguments, with a space before each.
-fn write_arguments<W: Write>(arguments: &[String], f: &mut Formatter<W>) -> fmt::Result
-    ensures { DisplaysOnOk W.write_str_gives f.old result
-        (printed (each_form (of_text (codes " ")) (map string_bytes arguments.now))) f.new }
-{
-    for argument in arguments {
-        write!(f, " {argument:?}")?;
-    }
-    Ok(())
-}
-
-// Writes a folder, if there is one.
-fn write_folder<W: Write>(folder: Option<&str>, f: &mut Formatter<W>) -> fmt::Result
-    ensures { DisplaysOnOk W.write_str_gives f.old result
-        (printed (folder_form (option_copied folder.entry))) f.new }
-{
-    match folder {
-        Some(folder) => write!(f, " in {folder:?}"),
-        None => Ok(()),
     }
 }
 

@@ -3,12 +3,12 @@
 ghost use Rattle.std.specs.Prelude.{◌≡◌, ◌++◌, ◌↔◌, map, IfOk, OnOk, IsTrue};
 ghost use Rattle.duct_system.specs.EntryView.{entry_view};
 ghost use Rattle.duct_system.specs.Trace.{trace, is_traced};
-ghost use Rattle.duct_system.specs.Ledger.{opened_numbers, opened_by, spent_numbers, spent_by, count_of, IsBalanced, open_count};
+ghost use Rattle.duct_system.specs.Ledger.{opened_numbers, spent_numbers, count_of, IsBalanced, open_count};
 ghost use Rattle.duct_system.specs.Origin.{origin};
-ghost use Rattle.duct_system.specs.Streams.{ends_of};
+ghost use Rattle.duct_system.specs.Streams.{present};
 ghost use Rattle.duct_script.specs.Checker.{Balances, BalancesAt, AllBalance, origin_of, Steps};
 
-use duct_system::system::{Entry, Side, Stdio};
+use duct_system::system::{Entry, Side};
 use std::alloc::{AllocError, Global};
 
 /// Where an end comes from.
@@ -31,7 +31,7 @@ pub fn opened_numbers(alloc: Global, entries: &[Entry]) -> Result<Vec<u64>, Allo
 {
     let mut numbers = Vec::new(alloc);
     for entry in entries {
-        push_got(&mut numbers, entry)?;
+        push_present(&mut numbers, &entry.opened())?;
     }
     Ok(numbers)
 }
@@ -43,7 +43,7 @@ pub fn spent_numbers(alloc: Global, entries: &[Entry]) -> Result<Vec<u64>, Alloc
 {
     let mut numbers = Vec::new(alloc);
     for entry in entries {
-        push_spent(&mut numbers, entry)?;
+        push_present(&mut numbers, &entry.spent())?;
     }
     Ok(numbers)
 }
@@ -168,46 +168,12 @@ fn count_of(number: u64, numbers: &[u64]) -> usize
     numbers.iter().filter(|other| **other == number).count()
 }
 
-/// Adds the numbers of the ends that an entry's request returned.
-fn push_got(numbers: &mut Vec<u64>, entry: &Entry) -> Result<(), AllocError>
-    ensures { OnOk result (numbers.new.items ≡ numbers.old.items ++ opened_by
-        (entry_view entry.now)) }
+// Adds the numbers that aren't missing.
+fn push_present(numbers: &mut Vec<u64>, ends: &[Option<u64>]) -> Result<(), AllocError>
+    ensures { OnOk result (numbers.new.items ≡ numbers.old.items ++ present ends.now) }
 {
-    match entry {
-        Entry::Pipe(Ok((reader, writer))) => {
-            numbers.push(*reader)?;
-            numbers.push(*writer)?;
-        }
-        Entry::OpenRead(_, Ok(end)) => numbers.push(*end)?,
-        Entry::Create(_, Ok(end)) => numbers.push(*end)?,
-        Entry::Duplicate(_, Ok(end)) => numbers.push(*end)?,
-        Entry::Parent(_, Ok(end)) => numbers.push(*end)?,
-        _ => {}
-    }
-    Ok(())
-}
-
-/// Adds the numbers of the ends that an entry's request took.
-fn push_spent(numbers: &mut Vec<u64>, entry: &Entry) -> Result<(), AllocError>
-    ensures { OnOk result
-        (numbers.new.items ≡ numbers.old.items ++ spent_by (entry_view entry.now)) }
-{
-    match entry {
-        Entry::Spawn(_, io, _) => push_ends(numbers, io),
-        Entry::Feed(end, _, _) => Ok(numbers.push(*end)?),
-        Entry::Drain(end, _) => Ok(numbers.push(*end)?),
-        Entry::Reader(end) => Ok(numbers.push(*end)?),
-        Entry::Close(end) => Ok(numbers.push(*end)?),
-        _ => Ok(()),
-    }
-}
-
-/// Adds the numbers of the ends of three streams.
-fn push_ends(numbers: &mut Vec<u64>, io: &[Stdio<u64>; 3]) -> Result<(), AllocError>
-    ensures { OnOk result (numbers.new.items ≡ numbers.old.items ++ ends_of io.now) }
-{
-    for stream in io {
-        if let Stdio::End(end) = stream {
+    for end in ends {
+        if let Some(end) = end {
             numbers.push(*end)?;
         }
     }

@@ -14,7 +14,6 @@ mod job;
 mod reader;
 mod requests;
 mod system;
-mod text;
 
 pub use answers::Answers;
 pub use calls::{Call, CallLog};
@@ -29,4 +28,3 @@ pub use job::{DrainScript, FeedScript, ScriptDrain, ScriptFeed};
 pub use reader::{ReadStep, ReaderScript, ScriptReader};
 pub use requests::{Requests, Sort};
 pub use system::{Script, ScriptEnd};
-pub use text::Words;

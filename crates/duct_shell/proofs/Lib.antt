@@ -4,4 +4,3 @@ pub mod Explaining
 pub mod LineSteps
 pub mod Sharing
 pub mod Tails
-pub mod Written

@@ -10,8 +10,8 @@ use Rattle.duct_system.specs.declared.error.Error.{Error}
 use Rattle.duct_system.specs.declared.error.Error.TheVariants.{System, Hook, HookEnd, Memory}
 use Rattle.duct_system.specs.declared.system.Fault.{Fault}
 use Rattle.duct_system.specs.declared.system.Kind.TheVariants.{OutOfMemory}
+use Rattle.duct_base.specs.EntryForm.{entry_text}
 use Rattle.duct_start.specs.Causes.{asked_in}
-use Rattle.duct_shell.specs.EntryForm.{entry_text}
 
 -- the last entry that is not a close
 abbrev pub last_asked : List EntryView → Option EntryView

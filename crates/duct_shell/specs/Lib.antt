@@ -1,7 +1,6 @@
 pub mod Calls
 pub mod Converted
 pub mod Copies
-pub mod EntryForm
 pub mod FailedRequest
 pub mod Lines
 pub mod Wraps

@@ -34,14 +34,13 @@ pub use chain::Chain;
 pub use failed_run::{FailedRun, last_lines};
 pub use failure::Failure;
 pub use lines::{each_line, ended};
-pub use request::{
-    EntryText, RequestText, failed_request, failed_starts, reason, request_text, write_arguments,
-};
+pub use request::{failed_request, failed_starts, reason, request_text};
 pub use shell::Shell;
 pub use tee::Tee;
 pub use threads::{SharedHandle, SharedReader};
 
 // What a program over a shell needs of the library.
+pub use duct_base::text::{EntryText, RequestText, write_arguments};
 pub use duct::{Clock, Error, ExitStatus, Expression, Handle, Output, ReaderHandle, System};
 pub use duct_tasks::{Late, LateRead, Until};
 

@@ -1,6 +1,5 @@
 //! The request that made a start fail, and its text.
-ghost use Rattle.std.specs.Prelude.{ℕ, ◌≡◌, map, string_bytes, Some, IfOk, IfSome};
-ghost use Rattle.std.specs.Fmt.{DisplaysOnOk};
+ghost use Rattle.std.specs.Prelude.{ℕ, ◌≡◌, map, Some, IfOk, IfSome};
 ghost use Rattle.std.specs.Option.{option_map};
 ghost use Rattle.duct_system.specs.EntryView.{entry_view};
 ghost use Rattle.duct_system.specs.Journal.{JournalView};
@@ -9,15 +8,13 @@ ghost use Rattle.duct_system.specs.declared.error.Error.{Error};
 ghost use Rattle.duct_start.specs.Plan.{Plan};
 ghost use Rattle.duct_start.specs.Start.{StartRefused};
 ghost use Rattle.duct_start.specs.TreeView.{TreeView};
-ghost use Rattle.duct_tree.specs.Text.{printed};
-ghost use Rattle.duct_shell.specs.EntryForm.{arguments_form, entry_form, request_form, spawn_form, request_text, entry_text};
 ghost use Rattle.duct_shell.specs.FailedRequest.{Explains, IsTextOf, failed_request, last_asked};
 
+use duct_base::text::EntryText;
 use duct_system::error::Error;
-use duct_system::spec::{CommandSpec, Hook};
-use duct_system::system::{Entry, Side, System};
+use duct_system::spec::Hook;
+use duct_system::system::{Entry, System};
 use std::alloc::{AllocError, Global};
-use std::fmt;
 
 /// Returns the request that made a start fail: the last of these entries that is no close, if it
 /// has a fault. It doesn't block and allocates nothing.
@@ -81,96 +78,4 @@ pub fn reason<S: System>(alloc: Global, system: &S, error: &Error) -> Result<Str
         Some(text) => Ok(text),
         None => format!(in alloc; "{error}"),
     }
-}
-
-/// The request of an entry as text, as in `spawn of "sort" "-u" in "/in"`, whatever its result is.
-/// Ends stand there by their numbers, and texts in quotes, as std's `{:?}` prints them. The text is
-/// promised where its paths, or its words and its folder, are printable ASCII.
-#[derive(Drop)]
-pub struct RequestText<'a>(pub &'a Entry);
-
-impl fmt::Display for RequestText<'_> {
-    ghost output = { λ text. request_text (entry_view text.0.now) };
-
-    fn fmt<W: fmt::Write>(&self, f: &mut fmt::Formatter<W>) -> fmt::Result {
-        write_request(self.0, f)
-    }
-}
-
-/// An entry as text, as in `spawn of "foo" in "/in": NotFound`: its `RequestText`, and the kind of
-/// its fault if the system refused it.
-#[derive(Drop)]
-pub struct EntryText<'a>(pub &'a Entry);
-
-impl fmt::Display for EntryText<'_> {
-    ghost output = { λ text. entry_text (entry_view text.0.now) };
-
-    fn fmt<W: fmt::Write>(&self, f: &mut fmt::Formatter<W>) -> fmt::Result {
-        write_entry(self.0, f)
-    }
-}
-
-// Writes the request of an entry, and its fault if it has one.
-fn write_entry<W: fmt::Write>(entry: &Entry, f: &mut fmt::Formatter<W>) -> fmt::Result
-    ensures { DisplaysOnOk W.write_str_gives f.old result
-        (printed (entry_form (entry_view entry.now))) f.new }
-{
-    write_request(entry, f)?;
-    match entry.fault() {
-        Some(fault) => write!(f, ": {}", fault.kind.name()),
-        None => Ok(()),
-    }
-}
-
-// Writes the request of an entry, without its result.
-fn write_request<W: fmt::Write>(entry: &Entry, f: &mut fmt::Formatter<W>) -> fmt::Result
-    ensures { DisplaysOnOk W.write_str_gives f.old result
-        (printed (request_form (entry_view entry.now))) f.new }
-{
-    match entry {
-        Entry::Environment(_) => f.write_str("environment"),
-        Entry::Pipe(_) => f.write_str("pipe"),
-        Entry::OpenRead(path, _) => write!(f, "open of {path:?}"),
-        Entry::Create(path, _) => write!(f, "create of {path:?}"),
-        Entry::Duplicate(lent, _) => write!(f, "duplicate of end {lent}"),
-        Entry::Parent(Side::Out, _) => f.write_str("duplicate of the parent's stdout"),
-        Entry::Parent(Side::Err, _) => f.write_str("duplicate of the parent's stderr"),
-        Entry::Canonicalize(path, _) => write!(f, "canonical path of {path:?}"),
-        Entry::Spawn(spec, _, _) => write_spawn(spec, f),
-        Entry::Feed(end, _, _) => write!(f, "input worker of end {end}"),
-        Entry::Drain(end, _) => write!(f, "capture worker of end {end}"),
-        Entry::Reader(end) => write!(f, "reader of end {end}"),
-        Entry::Close(end) => write!(f, "close of end {end}"),
-    }
-}
-
-// Writes the request of a child: its words, and its folder if it has one of its own.
-fn write_spawn<W: fmt::Write>(spec: &CommandSpec, f: &mut fmt::Formatter<W>) -> fmt::Result
-    ensures { DisplaysOnOk W.write_str_gives f.old result (printed (spawn_form spec.now)) f.new }
-{
-    match spec.words().split_first() {
-        Some((program, arguments)) => {
-            write!(f, "spawn of {program:?}")?;
-            write_arguments(arguments, f)?;
-        }
-        None => f.write_str("spawn of no program")?,
-    }
-    match spec.folder() {
-        Some(folder) => write!(f, " in {folder:?}"),
-        None => Ok(()),
-    }
-}
-
-/// Writes arguments in quotes, with a space before each. Fails where a write fails.
-pub fn write_arguments<W: fmt::Write>(
-    arguments: &[String],
-    f: &mut fmt::Formatter<W>,
-) -> fmt::Result
-    ensures { DisplaysOnOk W.write_str_gives f.old result
-        (printed (arguments_form (map string_bytes arguments.now))) f.new }
-{
-    for argument in arguments {
-        write!(f, " {argument:?}")?;
-    }
-    Ok(())
 }

@@ -5,6 +5,7 @@ pub mod Latest
 pub mod Looks
 pub mod Messages
 pub mod Order
+pub mod Printing
 pub mod Quotes
 pub mod Ran
 pub mod Settled

@@ -4,6 +4,7 @@ pub mod CoreView
 pub mod Endings
 pub mod EventView
 pub mod Fits
+pub mod Form
 pub mod Latest
 pub mod Laws
 pub mod LendsSide

@@ -1,5 +1,6 @@
 -- The three streams of a child: their ends, and that they fit in memory.
-use Rattle.std.specs.Prelude.{◌*◌, ◌<◌, ◌^◌, List, [], ◌∷◌, flat_map}
+use Rattle.std.specs.Prelude.{◌*◌, ◌<◌, ◌^◌, List, [], ◌∷◌, flat_map, Some, None}
+use Rattle.std.specs.declared.option.Option.{Option}
 use Rattle.std.specs.Borrow.{RattleType}
 use prog.Memory.{size}
 use denote.Param.{layout}
@@ -26,3 +27,9 @@ end_of (End e) = e ∷ []
 -- the ends of some streams, in their order
 abbrev pub ends_of : {E : Type 0} → List (Stdio E) → List E
 ends_of io = flat_map end_of io
+
+-- the ends of a list in which some are missing
+abbrev pub present : {E : Type 0} → List (Option E) → List E
+present [] = []
+present (Some e ∷ ends) = e ∷ present ends
+present (None ∷ ends) = present ends

@@ -96,7 +96,7 @@ impl Machine for Scripted {
             "during" => push_calls(out, &self.bench, begun, started)?,
             "calls" => push_calls(out, &self.bench, started, called)?,
             "within" => {
-                let most = most_held(self.alloc, self.bench.sys.journal())?;
+                let most = most_held(self.bench.sys.journal());
                 write!(out, "{}", most.max(text.parse().unwrap_or(0)))?;
             }
             "times" => self.push_times(out)?,

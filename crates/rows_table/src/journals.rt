@@ -2,11 +2,9 @@
 use crate::scenes::{Bench, FIRST};
 use crate::stop::TableError;
 use duct::{CommandSpec, Entry, Pool, Stdio, System};
-use duct_script::{
-    Call, CallLog, Sort, Source, Words, opened_numbers, origin, spent_numbers, trace,
-};
+use duct_base::text::EntryText;
+use duct_script::{Call, CallLog, Sort, Source, origin, trace};
 use std::alloc::{AllocError, Global};
-use std::slice;
 
 /// Adds a comma and a space, unless the text is empty.
 fn push_comma(text: &mut String) -> Result<(), AllocError> {
@@ -17,10 +15,11 @@ fn push_comma(text: &mut String) -> Result<(), AllocError> {
     }
 }
 
-/// Adds the entries in words. Fails on an allocation failure.
+/// Adds the requests of the entries, and of those that were refused the fault. Fails on an
+/// allocation failure.
 pub fn push_journal(text: &mut String, journal: &[Entry]) -> Result<(), AllocError> {
     for entry in journal {
-        write!(text, "{}. ", Words(entry))?;
+        write!(text, "{}. ", EntryText(entry))?;
     }
     Ok(())
 }
@@ -156,17 +155,15 @@ pub fn push_pool<C: Drop>(text: &mut String, pool: &Pool<C>) -> Result<(), Alloc
     )
 }
 
-/// Returns the greatest number of ends that were held at once. Fails on an allocation failure.
-pub fn most_held(alloc: Global, entries: &[Entry]) -> Result<usize, AllocError> {
+/// Returns the greatest number of ends that were held at once.
+pub fn most_held(entries: &[Entry]) -> usize {
     let (mut most, mut held) = (0_usize, 0_usize);
     for entry in entries {
-        let entry = slice::from_ref(entry);
-        let spent = spent_numbers(alloc, entry)?.len();
-        held = held.saturating_add(opened_numbers(alloc, entry)?.len());
-        held = held.saturating_sub(spent);
+        held = held.saturating_add(entry.opened().iter().flatten().count());
+        held = held.saturating_sub(entry.spent().iter().flatten().count());
         most = most.max(held);
     }
-    Ok(most)
+    most
 }
 
 /// Adds a `p` for each poll of a child in the log and an `o` for each order, in their order. Fails

@@ -2,7 +2,8 @@
 ghost use Rattle.std.specs.Prelude.{[], ◌∷◌, codes, map, string_bytes};
 ghost use Rattle.std.specs.Fmt.{DisplaysOnOk};
 ghost use Rattle.duct_system.specs.SpecView.{var_view};
-ghost use Rattle.duct_tree.specs.Text.{joined, named, numbers, plain, printed, quote, texts, vars_form};
+ghost use Rattle.duct_status.specs.Form.{joined, numbers, plain, printed, quote, texts};
+ghost use Rattle.duct_tree.specs.Text.{named, vars_form};
 
 use super::{Modifier, Node};
 use duct_base::names::EnvNameString;
@@ -10,7 +11,8 @@ use std::collections::btree_map::Iter;
 use std::fmt;
 
 impl<E, H> fmt::Debug for Node<E, H> {
-    ghost use Rattle.duct_tree.specs.Text.{printed, tree_form};
+    ghost use Rattle.duct_status.specs.Form.{printed};
+    ghost use Rattle.duct_tree.specs.Text.{tree_form};
     ghost use Rattle.duct_tree.specs.NodeView.{node_view};
 
     ghost debug_output = { λ node. printed (tree_form (node_view node)) };
@@ -35,7 +37,8 @@ impl<E, H> fmt::Debug for Node<E, H> {
 }
 
 impl<E, H> fmt::Debug for Modifier<E, H> {
-    ghost use Rattle.duct_tree.specs.Text.{modifier_form, printed};
+    ghost use Rattle.duct_status.specs.Form.{printed};
+    ghost use Rattle.duct_tree.specs.Text.{modifier_form};
     ghost use Rattle.duct_tree.specs.NodeView.{modifier_view};
 
     ghost debug_output = { λ modifier. printed (modifier_form (modifier_view modifier)) };

@@ -1,10 +1,10 @@
 -- A plan prints the promised text.
 use Rattle.std.proofs.Common.{Ok, arith, map, refl}
-use Rattle.duct_tree.specs.Text.{form_text, is_form_printable, printed}
-use Rattle.duct_tree.proofs.Printing.{form_prints, displays_if}
+use Rattle.duct_status.specs.Form.{form_text, is_form_printable, printed}
+use Rattle.duct_status.proofs.Printing.{form_prints, displays_if}
 use Rattle.duct_plan.specs.PlanView.{item_of}
 use Rattle.duct_plan.specs.PlanForm.{line_form, lines_form}
-use Rattle.duct_plan.proofs.Written.{continues_more, continues_end}
+use Rattle.duct_base.proofs.Written.{continues_more, continues_end}
 use Rattle.duct_plan.proofs.text.PlanTextDisplay.fmt.Goals as goal
 
 pub loop-place-preserved : goal.loop-place-preserved

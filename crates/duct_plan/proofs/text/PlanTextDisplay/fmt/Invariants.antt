@@ -1,9 +1,9 @@
 -- The lines that are left complete the text.
 use Rattle.std.proofs.Common.{drop, map}
-use Rattle.duct_tree.specs.Text.{printed}
+use Rattle.duct_status.specs.Form.{printed}
 use Rattle.duct_plan.specs.PlanForm.{lines_form}
 use Rattle.duct_plan.specs.PlanView.{item_of}
-use Rattle.duct_plan.proofs.Written.{Continues}
+use Rattle.duct_base.proofs.Written.{Continues}
 use Rattle.duct_plan.proofs.text.PlanTextDisplay.fmt.Given as goal
 
 abbrev pub invariant-loop-place : goal.invariant-loop-place

@@ -1,9 +1,9 @@
 -- An entry prints the promised text.
 use Rattle.duct_system.specs.EntryView.{entry_view}
-use Rattle.duct_tree.specs.Text.{form_text, is_form_printable, printed}
-use Rattle.duct_tree.proofs.Printing.{form_prints, displays_if}
-use Rattle.duct_shell.specs.EntryForm.{entry_form}
-use Rattle.duct_shell.proofs.request.EntryTextDisplay.fmt.Goals as goal
+use Rattle.duct_status.specs.Form.{form_text, is_form_printable, printed}
+use Rattle.duct_status.proofs.Printing.{form_prints, displays_if}
+use Rattle.duct_base.specs.EntryForm.{entry_form}
+use Rattle.duct_base.proofs.text.EntryTextDisplay.fmt.Goals as goal
 
 pub returns-clause-writes : goal.returns-clause-writes
 returns-clause-writes g c =

@@ -1,8 +1,7 @@
 use Rattle.std.proofs.Common.{arith, codes, map, refl, string_bytes}
-use Rattle.duct_tree.specs.Text.{printed}
-use Rattle.duct_plan.specs.PlanForm.{each_form, of_text}
-use Rattle.duct_plan.proofs.Written.{continues_more, continues_end}
-use Rattle.duct_plan.proofs.text.write_arguments.Goals as goal
+use Rattle.duct_status.specs.Form.{each_form, of_text, printed}
+use Rattle.duct_base.proofs.Written.{continues_more, continues_end}
+use Rattle.duct_base.proofs.text.write_arguments.Goals as goal
 
 pub loop-argument-preserved : goal.loop-argument-preserved
 loop-argument-preserved g c =
