@@ -4,7 +4,7 @@ ghost use Rattle.std.specs.Arc.{arc_value};
 ghost use Rattle.duct_system.specs.EntryView.{entry_view, answer_of, Environment, Pipe, OpenRead, Create, Duplicate, Parent, Canonicalize, Spawn, Feed, Drain, Reader, Close};
 ghost use Rattle.duct_system.specs.Child.{IsUnasked};
 ghost use Rattle.duct_system.specs.Job.{unpolled_job};
-ghost use Rattle.duct_system.specs.Journal.{Asks, GetsEnds, GivesEnds, IsCleared, IsNew, IsRefused};
+ghost use Rattle.duct_system.specs.Journal.{Asks, GetsEnds, GivesEnds, IsCleared, IsRefused, RefusesChild, StartsChild};
 ghost use Rattle.duct_system.specs.SpecView.{pair_text};
 ghost use Rattle.duct_system.specs.Streams.{stream_of, ends_of};
 ghost use Rattle.duct_guard.specs.Rules.{AreAllowed, AreDenied};
@@ -296,16 +296,12 @@ impl<S: System, P: Policy> System for Guarded<S, P> {
         io: [Stdio<S::End>; 3],
     ) -> Result<GuardedChild<S::Child>, Fault>
         requires { min 1 (length (ends_of io)) ≤ self.old.journal.room }
-        ensures ok { IfOk result (λ child.
-            let streams = map (stream_of S.End.number_of) io in
-            let entry = Spawn spec streams (Ok (S.Child.number_of child.inner)) in
-            GivesEnds entry (length (ends_of io)) self.old.journal self.new.journal) }
-        ensures fresh { IfOk result (λ child.
-            IsNew self.old.journal self.new.journal (S.Child.number_of child.inner)) }
+        ensures ok { IfOk result (λ child. StartsChild S.End.number_of spec io
+            (S.Child.number_of child.inner) self.old.journal self.new.journal) }
         ensures unasked { IfOk result (λ child. IsUnasked (S.Child.child_view child.inner)) }
-        ensures err { IfErr result (λ fault.
-            let entry = Spawn spec (map (stream_of S.End.number_of) io) (Err fault) in
-            IsRefused entry (length (ends_of io)) fault self.old.journal self.new.journal) }
+        ensures err { IfErr result
+            (λ fault. RefusesChild S.End.number_of spec io fault
+            self.old.journal self.new.journal) }
         // Without ends, nothing is asked: there may be no memory for the entry.
         ensures closes { allows_spawn (P.rules self.old.policy) self.old.held spec ≡ false →
             ClosesFirst self.old.journal.room (map S.End.number_of (ends_of io))

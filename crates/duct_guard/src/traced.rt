@@ -1,10 +1,9 @@
 //! A traced system.
-ghost use Rattle.std.specs.Prelude.{◌≡◌, IfOk, string_bytes, None, ◌≤◌, min, length, map, Ok, Err, IfErr};
+ghost use Rattle.std.specs.Prelude.{◌≡◌, IfOk, string_bytes, None, ◌≤◌, min, length, IfErr};
 ghost use Rattle.std.specs.Option.{option_copied};
 ghost use Rattle.duct_system.specs.Child.{IsUnasked};
-ghost use Rattle.duct_system.specs.EntryView.{Spawn};
-ghost use Rattle.duct_system.specs.Journal.{GivesEnds, IsNew, IsRefused};
-ghost use Rattle.duct_system.specs.Streams.{stream_of, ends_of};
+ghost use Rattle.duct_system.specs.Journal.{RefusesChild, StartsChild};
+ghost use Rattle.duct_system.specs.Streams.{ends_of};
 ghost use Rattle.duct_guard.specs.Traces.{Traces, line_in, line_of};
 
 use duct_base::transfer::write_whole;
@@ -171,17 +170,13 @@ impl<S: System, W: Write> System for Traced<S, W> {
 
     fn spawn(&mut self, spec: CommandSpec, io: [Stdio<S::End>; 3]) -> Result<S::Child, Fault>
         requires { min 1 (length (ends_of io)) ≤ (S.journal_view self.old.system).room }
-        ensures ok { IfOk result (λ child.
-            let streams = map (stream_of S.End.number_of) io in
-            GivesEnds (Spawn spec streams (Ok (S.Child.number_of child))) (length (ends_of io))
-            (S.journal_view self.old.system) (S.journal_view self.new.system)) }
-        ensures fresh { IfOk result (λ child. IsNew (S.journal_view self.old.system)
-            (S.journal_view self.new.system) (S.Child.number_of child)) }
-        ensures unasked { IfOk result (λ child. IsUnasked (S.Child.child_view child)) }
-        ensures err { IfErr result (λ fault.
-            let entry = Spawn spec (map (stream_of S.End.number_of) io) (Err fault) in
-            IsRefused entry (length (ends_of io)) fault (S.journal_view self.old.system)
+        ensures ok { IfOk result (λ child. StartsChild S.End.number_of spec io
+            (S.Child.number_of child) (S.journal_view self.old.system)
             (S.journal_view self.new.system)) }
+        ensures unasked { IfOk result (λ child. IsUnasked (S.Child.child_view child)) }
+        ensures err { IfErr result
+            (λ fault. RefusesChild S.End.number_of spec io fault
+            (S.journal_view self.old.system) (S.journal_view self.new.system)) }
         ensures traced { Traces (W.contents self.old.writer) (W.contents self.new.writer)
             (line_of spec) self.old.stopped self.new.stopped }
     {

@@ -1,10 +1,10 @@
 //! The host: a system over the real machine.
-ghost use Rattle.std.specs.Prelude.{◌≡◌, ◌≢◌, ◌⊎◌, ◌+◌, ◌-◌, ◌^◌, ◌<◌, ◌≤◌, [], map, min, string_bytes, Ok, Err, IfOk, IfErr, OnOk, OnErr};
+ghost use Rattle.std.specs.Prelude.{◌≡◌, ◌≢◌, ◌⊎◌, ◌+◌, ◌-◌, ◌^◌, ◌<◌, ◌≤◌, [], map, min, Ok, Err, IfOk, IfErr};
 ghost use Rattle.duct_system.specs.Journal.{IsNew};
 ghost use Rattle.duct_system.specs.SpecView.{pair_text};
 ghost use Rattle.duct_system.specs.declared.system.Kind.TheVariants.{Other, OutOfMemory};
 ghost use Rattle.duct_host.specs.Commands.{IsCommandOf};
-ghost use Rattle.duct_host.specs.Steps.{OnlyCounts, OnlyRoom};
+ghost use Rattle.duct_host.specs.Steps.{OnlyCounts};
 
 use crate::child::Child;
 use crate::end::End;
@@ -229,12 +229,11 @@ impl<R: Threads> Host<R> {
 /// A reader knows the number of its end. What the machine gives through it is left open.
 impl<R: Processes + Files<File = File> + Env + Parents + Threads + Clone + Drop> System
     for Host<R> {
-    ghost use Rattle.std.specs.Prelude.{◌≤◌, length, map, min, Ok, Err, IfOk, IfErr};
+    ghost use Rattle.std.specs.Prelude.{◌≤◌, length, min, IfOk, IfErr};
     ghost use Rattle.std.proofs.Common.{lit<};
     ghost use Rattle.duct_system.specs.Child.{IsUnasked};
-    ghost use Rattle.duct_system.specs.Journal.{GivesEnds, IsNew, IsRefused};
-    ghost use Rattle.duct_system.specs.EntryView.{Spawn};
-    ghost use Rattle.duct_system.specs.Streams.{stream_of, ends_of};
+    ghost use Rattle.duct_system.specs.Journal.{RefusesChild, StartsChild};
+    ghost use Rattle.duct_system.specs.Streams.{ends_of};
     ghost use Rattle.duct_host.specs.ChildView.{child_view};
 
     type End = End;
@@ -334,15 +333,12 @@ impl<R: Processes + Files<File = File> + Env + Parents + Threads + Clone + Drop>
 
     fn spawn(&mut self, spec: CommandSpec, io: [Stdio<End>; 3]) -> Result<Child<R>, Fault>
         requires { min 1 (length (ends_of io)) ≤ self.old.room }
-        ensures ok { IfOk result (λ child.
-            let entry = Spawn spec (map (stream_of (λ e. e)) io) (Ok child.number) in
-            GivesEnds entry (length (ends_of io)) self.old self.new
-            × IsNew self.old self.new child.number) }
+        ensures ok { IfOk result (λ child. StartsChild (λ e. e) spec io
+            child.number self.old self.new) }
         ensures unasked { IfOk result (λ child. IsUnasked (child_view child)) }
         ensures command { IfOk result (λ child. IsCommandOf spec child.command.value) }
-        ensures err { IfErr result (λ fault.
-            let entry = Spawn spec (map (stream_of (λ e. e)) io) (Err fault) in
-            IsRefused entry (length (ends_of io)) fault self.old self.new) }
+        ensures err { IfErr result
+            (λ fault. RefusesChild (λ e. e) spec io fault self.old self.new) }
     {
         let (kept, ends) = numbered_streams(&io);
         self.journal.prepare_spawn(ends)?;

@@ -1,10 +1,9 @@
 //! A system that is recorded.
-ghost use Rattle.std.specs.Prelude.{◌≡◌, IfOk, ◌≤◌, min, length, map, Ok, Err, IfErr};
+ghost use Rattle.std.specs.Prelude.{◌≡◌, IfOk, ◌≤◌, min, length, IfErr};
 ghost use Rattle.duct_replay.specs.RecordingView.{NotesOnly, RecordingView};
 ghost use Rattle.duct_system.specs.Child.{IsUnasked};
-ghost use Rattle.duct_system.specs.EntryView.{Spawn};
-ghost use Rattle.duct_system.specs.Journal.{GivesEnds, IsNew, IsRefused};
-ghost use Rattle.duct_system.specs.Streams.{stream_of, ends_of};
+ghost use Rattle.duct_system.specs.Journal.{RefusesChild, StartsChild};
+ghost use Rattle.duct_system.specs.Streams.{ends_of};
 
 use crate::recorded::{
     Ending, Notes, Output, RecordedChild, RecordedDrain, RecordedReader, add_note, note_of,
@@ -147,17 +146,13 @@ impl<S: System> System for Recorder<S> {
         io: [Stdio<S::End>; 3],
     ) -> Result<RecordedChild<S::Child>, Fault>
         requires { min 1 (length (ends_of io)) ≤ (S.journal_view self.old.inner).room }
-        ensures ok { IfOk result (λ child.
-            let number = S.Child.number_of child.inner in
-            let entry = Spawn spec (map (stream_of S.End.number_of) io) (Ok number) in
-            GivesEnds entry (length (ends_of io)) (S.journal_view self.old.inner)
-            (S.journal_view self.new.inner)
-            × IsNew (S.journal_view self.old.inner) (S.journal_view self.new.inner) number) }
-        ensures unasked { IfOk result (λ child. IsUnasked (S.Child.child_view child.inner)) }
-        ensures err { IfErr result (λ fault.
-            let entry = Spawn spec (map (stream_of S.End.number_of) io) (Err fault) in
-            IsRefused entry (length (ends_of io)) fault (S.journal_view self.old.inner)
+        ensures ok { IfOk result (λ child. StartsChild S.End.number_of spec io
+            (S.Child.number_of child.inner) (S.journal_view self.old.inner)
             (S.journal_view self.new.inner)) }
+        ensures unasked { IfOk result (λ child. IsUnasked (S.Child.child_view child.inner)) }
+        ensures err { IfErr result
+            (λ fault. RefusesChild S.End.number_of spec io fault
+            (S.journal_view self.old.inner) (S.journal_view self.new.inner)) }
     {
         let child = self.inner.spawn(spec, io)?;
         let note = add_note(self.alloc, &mut self.endings, child.number());

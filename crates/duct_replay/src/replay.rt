@@ -5,7 +5,7 @@ ghost use Rattle.std.specs.Arc.{arc_value};
 ghost use Rattle.duct_system.specs.Child.{IsUnasked};
 ghost use Rattle.duct_system.specs.EntryView.{entry_view, answer_of, Environment, Pipe, OpenRead, Create, Duplicate, Parent, Canonicalize, Spawn, Feed, Drain, Reader, Close};
 ghost use Rattle.duct_system.specs.Job.{unpolled_job};
-ghost use Rattle.duct_system.specs.Journal.{Asks, GetsEnds, GivesEnds, IsCleared, IsNew, IsRefused};
+ghost use Rattle.duct_system.specs.Journal.{Asks, GetsEnds, GivesEnds, IsCleared, IsRefused, RefusesChild, StartsChild};
 ghost use Rattle.duct_system.specs.SpecView.{pair_text};
 ghost use Rattle.duct_system.specs.Streams.{stream_of, ends_of};
 ghost use Rattle.duct_replay.specs.RecordingView.{bytes_of, no_memory, output_of, status_of};
@@ -304,14 +304,12 @@ impl System for Replay {
 
     fn spawn(&mut self, spec: CommandSpec, io: [Stdio<ReplayEnd>; 3]) -> Result<ReplayChild, Fault>
         requires { min 1 (length (ends_of io)) ≤ self.old.journal.room }
-        ensures ok { IfOk result (λ child.
-            let entry = Spawn spec (map (stream_of (λ end. end.number)) io) (Ok child.number) in
-            GivesEnds entry (length (ends_of io)) self.old.journal self.new.journal
-            × IsNew self.old.journal self.new.journal child.number) }
+        ensures ok { IfOk result (λ child. StartsChild (λ end. end.number) spec io
+            child.number self.old.journal self.new.journal) }
         ensures unasked { IfOk result (λ child. IsUnasked (child_view child)) }
-        ensures err { IfErr result (λ fault.
-            let entry = Spawn spec (map (stream_of (λ end. end.number)) io) (Err fault) in
-            IsRefused entry (length (ends_of io)) fault self.old.journal self.new.journal) }
+        ensures err { IfErr result
+            (λ fault. RefusesChild (λ end. end.number) spec io fault
+            self.old.journal self.new.journal) }
         // Where a recorded child failed with `OutOfMemory`, there may be no memory to compare the
         // specs.
         ensures replayed { MayReplay (Spawn spec (map (stream_of (λ end. end.number)) io))

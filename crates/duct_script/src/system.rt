@@ -11,9 +11,8 @@ ghost use Rattle.duct_script.specs.Answers.{IsNext, bytes_said};
 ghost use Rattle.duct_script.specs.declared.requests.Sort.TheVariants.{Drain};
 ghost use Rattle.duct_system.specs.Child.{IsUnasked};
 ghost use Rattle.duct_system.specs.Job.{unpolled_job};
-ghost use Rattle.duct_system.specs.EntryView.{Spawn};
-ghost use Rattle.duct_system.specs.Journal.{GivesEnds, IsNew, IsRefused};
-ghost use Rattle.duct_system.specs.Streams.{stream_of, ends_of};
+ghost use Rattle.duct_system.specs.Journal.{RefusesChild, StartsChild};
+ghost use Rattle.duct_system.specs.Streams.{ends_of};
 ghost use Rattle.std.proofs.Common.{lit<};
 
 use crate::answers::Answers;
@@ -549,14 +548,12 @@ impl System for Script {
 
     fn spawn(&mut self, spec: CommandSpec, io: [Stdio<ScriptEnd>; 3]) -> Result<ScriptChild, Fault>
         requires { min 1 (length (ends_of io)) ≤ self.old.journal.room }
-        ensures ok { IfOk result (λ child.
-            let entry = Spawn spec (map (stream_of (λ e. e.number)) io) (Ok child.number) in
-            GivesEnds entry (length (ends_of io)) self.old.journal self.new.journal
-            × IsNew self.old.journal self.new.journal child.number) }
+        ensures ok { IfOk result (λ child. StartsChild (λ e. e.number) spec io
+            child.number self.old.journal self.new.journal) }
         ensures unasked { IfOk result (λ child. IsUnasked (child_view child)) }
-        ensures err { IfErr result (λ fault.
-            let entry = Spawn spec (map (stream_of (λ e. e.number)) io) (Err fault) in
-            IsRefused entry (length (ends_of io)) fault self.old.journal self.new.journal) }
+        ensures err { IfErr result
+            (λ fault. RefusesChild (λ e. e.number) spec io fault
+            self.old.journal self.new.journal) }
     {
         let (streams, ends) = numbered_streams(&io);
         let fault = if ends == 0 {

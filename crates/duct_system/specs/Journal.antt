@@ -1,8 +1,11 @@
 -- What contracts see of a system's journal, and how a call changes it.
-use Rattle.std.specs.Prelude.{ℕ, ◌+◌, ◌<◌, ◌≤◌, ◌≡◌, ◌≢◌, ◌⊎◌, List, [], ◌∷◌, ◌++◌}
-use Rattle.duct_system.specs.EntryView.{EntryView}
+use Rattle.std.specs.Prelude.{ℕ, ◌+◌, ◌<◌, ◌≤◌, ◌≡◌, ◌≢◌, ◌⊎◌, List, [], ◌∷◌, ◌++◌, Ok, Err, length, map}
+use Rattle.duct_system.specs.EntryView.{EntryView, Spawn}
+use Rattle.duct_system.specs.SpecView.{SpecView}
+use Rattle.duct_system.specs.Streams.{ends_of, stream_of}
 use Rattle.duct_system.specs.declared.system.Fault.{Fault}
 use Rattle.duct_system.specs.declared.system.Kind.TheVariants.{OutOfMemory}
+use Rattle.duct_system.specs.declared.system.Stdio.{Stdio}
 
 -- its entries, oldest first; how many were ever added, also those that were cleared; the number
 -- below which all numbers so far are; and how many more entries can be added without an allocation
@@ -54,6 +57,20 @@ GivesEnds entry count old new = Adds entry 0 count old new
 abbrev pub IsRefused : EntryView → ℕ → Fault → JournalView → JournalView → Type 0
 IsRefused entry count fault old new =
     Adds entry 0 count old new ⊎ ((count ≡ 0) × AddsNothing old new × (fault.kind ≡ OutOfMemory))
+
+-- the start of a child with this number, by its spec and its streams
+abbrev pub StartsChild : {E : Type 0} → (E → ℕ) → SpecView → List (Stdio E) → ℕ → JournalView
+    → JournalView → Type 0
+StartsChild number_of spec io number old new =
+    GivesEnds (Spawn spec (map (stream_of number_of) io) (Ok number)) (length (ends_of io)) old new
+    × IsNew old new number
+
+-- the start of a child that was refused with this fault
+abbrev pub RefusesChild : {E : Type 0} → (E → ℕ) → SpecView → List (Stdio E) → Fault → JournalView
+    → JournalView → Type 0
+RefusesChild number_of spec io fault old new =
+    IsRefused (Spawn spec (map (stream_of number_of) io) (Err fault)) (length (ends_of io)) fault old
+    new
 
 -- the entries were cleared; the count of added entries stays, and the numbers and the room have not
 -- fallen

@@ -5,12 +5,12 @@ ghost use Rattle.std.specs.declared.result.Result.{Result};
 ghost use Rattle.std.specs.declared.time.Duration.{Duration};
 ghost use Rattle.std.specs.Arc.{arc_value};
 ghost use Rattle.duct_system.specs.Child.{Answer, Obeyed, ChildView, PollsChild, OrdersChild, IsUnasked};
-ghost use Rattle.duct_system.specs.EntryView.{entry_view, Environment, Pipe, OpenRead, Create, Duplicate, Parent, Canonicalize, Spawn, Feed, Drain, Reader, Close};
+ghost use Rattle.duct_system.specs.EntryView.{entry_view, Environment, Pipe, OpenRead, Create, Duplicate, Parent, Canonicalize, Feed, Drain, Reader, Close};
 ghost use Rattle.duct_system.specs.Job.{JobView, PollsJob, unpolled_job, MeansSameBytes};
-ghost use Rattle.duct_system.specs.Journal.{JournalView, Asks, GetsEnd, GetsEnds, GivesEnds, IsNew, IsRefused, IsCleared};
+ghost use Rattle.duct_system.specs.Journal.{JournalView, Asks, GetsEnd, GetsEnds, GivesEnds, IsRefused, IsCleared, RefusesChild, StartsChild};
 ghost use Rattle.duct_system.specs.SpecView.{pair_text};
 ghost use Rattle.duct_system.specs.Status.{is_success, code_of, signal_of};
-ghost use Rattle.duct_system.specs.Streams.{StreamsFit, stream_of, ends_of};
+ghost use Rattle.duct_system.specs.Streams.{StreamsFit, ends_of};
 ghost use Rattle.duct_system.specs.declared.system.ExitStatus.{ExitStatus};
 ghost use Rattle.duct_system.specs.declared.system.Fault.{Fault};
 ghost use Rattle.duct_system.specs.declared.system.Order.{Order};
@@ -361,16 +361,12 @@ pub trait System {
     /// end, there may be no memory for the entry.
     fn spawn(&mut self, spec: CommandSpec, io: [Stdio<Self::End>; 3]) -> Result<Self::Child, Fault>
         requires { min 1 (length (ends_of io)) ≤ (journal_view self.old).room }
-        ensures ok { IfOk result (λ child.
-            let number = Self.Child.number_of child in
-            let entry = Spawn spec (map (stream_of Self.End.number_of) io) (Ok number) in
-            GivesEnds entry (length (ends_of io)) (journal_view self.old) (journal_view self.new)
-            × IsNew (journal_view self.old) (journal_view self.new) number) }
+        ensures ok { IfOk result (λ child. StartsChild Self.End.number_of spec io
+            (Self.Child.number_of child) (journal_view self.old) (journal_view self.new)) }
         ensures unasked { IfOk result (λ child. IsUnasked (Self.Child.child_view child)) }
-        ensures err { IfErr result (λ fault.
-            let entry = Spawn spec (map (stream_of Self.End.number_of) io) (Err fault) in
-            IsRefused entry (length (ends_of io)) fault (journal_view self.old)
-            (journal_view self.new)) };
+        ensures err { IfErr result
+            (λ fault. RefusesChild Self.End.number_of spec io fault
+            (journal_view self.old) (journal_view self.new)) };
 
     /// Starts a worker that writes the bytes to the end and then closes it.
     fn start_feed(&mut self, end: Self::End, bytes: Arc<Vec<u8>>) -> Result<Self::Feed, Fault>

@@ -4,15 +4,14 @@
 //! operating system, and callers over it to return what it says.
 #![tactic(auto)]
 
-ghost use Rattle.std.specs.Prelude.{◌≡◌, ◌≤◌, length, map, min, Some, Ok, Err, IfOk, IfErr};
+ghost use Rattle.std.specs.Prelude.{◌≡◌, ◌≤◌, length, min, Some, IfOk, IfErr};
 ghost use Rattle.std.specs.Arc.{arc_value};
 ghost use Rattle.std.specs.Io.Cursor.{cursor_remaining};
 ghost use Rattle.std.proofs.Common.{lit<, refl};
 ghost use Rattle.duct_system.specs.Child.{IsUnasked};
-ghost use Rattle.duct_system.specs.EntryView.{Spawn};
 ghost use Rattle.duct_system.specs.Job.{unpolled_job};
-ghost use Rattle.duct_system.specs.Journal.{GivesEnds, IsNew, IsRefused};
-ghost use Rattle.duct_system.specs.Streams.{ends_of, stream_of};
+ghost use Rattle.duct_system.specs.Journal.{RefusesChild, StartsChild};
+ghost use Rattle.duct_system.specs.Streams.{ends_of};
 ghost use Rattle.system_small.specs.ChildView.{child_view};
 ghost use Rattle.system_small.specs.Told.{MayAnswer, MayDrain, MayObey, printed};
 
@@ -191,14 +190,11 @@ impl System for SmallSystem {
 
     fn spawn(&mut self, spec: CommandSpec, io: [Stdio<SmallEnd>; 3]) -> Result<SmallChild, Fault>
         requires { min 1 (length (ends_of io)) ≤ self.old.0.room }
-        ensures ok { IfOk result (λ child.
-            let entry = Spawn spec (map (stream_of (λ end. end.0)) io) (Ok child.number) in
-            GivesEnds entry (length (ends_of io)) self.old.0 self.new.0
-            × IsNew self.old.0 self.new.0 child.number) }
+        ensures ok { IfOk result (λ child. StartsChild (λ end. end.0) spec io
+            child.number self.old.0 self.new.0) }
         ensures unasked { IfOk result (λ child. IsUnasked (child_view child)) }
-        ensures err { IfErr result (λ fault.
-            let entry = Spawn spec (map (stream_of (λ end. end.0)) io) (Err fault) in
-            IsRefused entry (length (ends_of io)) fault self.old.0 self.new.0) }
+        ensures err { IfErr result
+            (λ fault. RefusesChild (λ end. end.0) spec io fault self.old.0 self.new.0) }
     {
         let (streams, ends) = numbered_streams(&io);
         self.0.prepare_spawn(ends)?;
