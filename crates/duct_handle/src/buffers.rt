@@ -26,31 +26,15 @@ use std::sync::Arc;
 #[derive(Drop)]
 pub struct HandleBuffers<S: System> {
     pub shape: Arc<Shape>,
-    pub numbers: Numbers,
-    pub ids: Vec<u32>,
-    pub spare: Box<Published<S>>,
-}
-
-// Empty lists for the numbers of a start of this shape, twice, and for its ids.
-fn lists(
-    alloc: Global,
-    shape: &Shape,
-    commands: usize,
-    inputs: usize,
-) -> Result<(Numbers, Numbers, Vec<u32>), Error>
-    requires commands { commands ≡ command_count (shape_view shape.now) }
-    requires inputs { inputs ≡ input_count (shape_view shape.now) }
-    ensures numbers { IfOk result (λ made. HaveRoom (shape_view shape.now) made.0) }
-    ensures spare { IfOk result (λ made. HaveRoom (shape_view shape.now) made.1) }
-    ensures empty { IfOk result (λ made. made.2.items ≡ []) }
-    ensures ids { IfOk result
-        (λ made. command_count (shape_view shape.now) ≤ vec_capacity made.2) }
-    ensures memory { IsOkUnless result Error.Memory }
-{
-    let numbers = Numbers::with_room(alloc, commands, inputs)?;
-    let spare = Numbers::with_room(alloc, commands, inputs)?;
-    let ids = Vec::with_capacity(alloc, commands)?;
-    Ok((numbers, spare, ids))
+    numbers: Numbers,
+    ids: Vec<u32>,
+    spare: Box<Published<S>>,
+    pub ghost numbers_fit: { HaveRoom (shape_view (arc_value shape)) numbers },
+    pub ghost ids_fit: { command_count (shape_view (arc_value shape)) ≤ vec_capacity ids },
+    pub ghost no_ids: { ids.items ≡ [] },
+    pub ghost spare_fits: { HaveRoom (shape_view (arc_value shape)) spare.value.numbers },
+    pub ghost same: { arc_value spare.value.shape ≡ arc_value shape },
+    pub ghost silent: { spare.value.answer ≡ None },
 }
 
 /// Allocates the buffers for a handle of a tree of this shape, with this many commands and inputs.
@@ -64,30 +48,19 @@ pub fn handle_buffers<S: System>(
     requires commands { commands ≡ command_count (shape_view (arc_value shape.now)) }
     requires inputs { inputs ≡ input_count (shape_view (arc_value shape.now)) }
     ensures shape { IfOk result (λ room. arc_value room.shape ≡ arc_value shape.now) }
-    ensures empty { IfOk result (λ room. room.ids.items ≡ []) }
-    ensures ids { IfOk result
-        (λ room. command_count (shape_view (arc_value shape.now)) ≤ vec_capacity room.ids) }
-    ensures numbers { IfOk result
-        (λ room. HaveRoom (shape_view (arc_value shape.now)) room.numbers) }
-    ensures spare { IfOk result
-        (λ room. HaveRoom (shape_view (arc_value shape.now)) room.spare.value.numbers) }
-    ensures same { IfOk result
-        (λ room. arc_value room.spare.value.shape ≡ arc_value shape.now) }
-    ensures silent { IfOk result (λ room. room.spare.value.answer ≡ None) }
     ensures memory { IsOkUnless result Error.Memory }
 {
-    let (numbers, spare, ids) = lists(alloc, shape, commands, inputs)?;
     let published = Published {
         shape: shape.clone()?,
-        numbers: spare,
+        numbers: Numbers::with_room(alloc, commands, inputs)?,
         answer: None,
         of: PhantomData,
     };
     let spare = Box::new(alloc, published)?;
     Ok(HandleBuffers {
         shape: shape.clone()?,
-        numbers,
-        ids,
+        numbers: Numbers::with_room(alloc, commands, inputs)?,
+        ids: Vec::with_capacity(alloc, commands)?,
         spare,
     })
 }
@@ -107,12 +80,6 @@ fn copy_ids(ids: &mut Vec<u32>, from: &[u32])
 /// left it: no child was polled or given an order, and no worker was polled.
 pub fn handle_of<S: System>(alloc: Global, running: Running<S>, room: HandleBuffers<S>) -> Handle<S>
     requires shape { shape_view (arc_value room.shape) ≡ shape_view running.shape }
-    requires empty { room.ids.items ≡ [] }
-    requires ids { command_count (shape_view running.shape) ≤ vec_capacity room.ids }
-    requires numbers { HaveRoom (shape_view running.shape) room.numbers }
-    requires spare { HaveRoom (shape_view running.shape) room.spare.value.numbers }
-    requires same { shape_view (arc_value room.spare.value.shape) ≡ shape_view running.shape }
-    requires silent { room.spare.value.answer ≡ None }
     requires unasked { AreUnasked ⟦<S as Viewed>⟧.views running.children running.feeds
         running.output running.error }
     ensures shape { shape_view result.shape ≡ shape_view running.shape }
