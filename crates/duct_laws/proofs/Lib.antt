@@ -1,5 +1,4 @@
 pub mod Alike
 pub mod Opened
-pub mod Ordered
 pub mod Streams
 pub mod Surroundings

@@ -2,7 +2,7 @@
 //! contract is the law. Ends are of type `E`, hooks of `H`.
 #![tactic(auto)]
 
-ghost use Rattle.std.specs.Prelude.{ℕ, List, ◌≡◌, ◌≤◌, true, is_some, length, map};
+ghost use Rattle.std.specs.Prelude.{ℕ, List, ◌≡◌, ◌≤◌, true, length, map};
 ghost use Rattle.std.specs.Cmp.{IsEquivalence, IsTotalOrder};
 ghost use Rattle.std.specs.Ordering.{is_eq};
 ghost use Rattle.duct_system.specs.EntryView.{EntryView};
@@ -10,14 +10,11 @@ ghost use Rattle.duct_system.specs.Ledger.{count_of, opened_numbers};
 ghost use Rattle.duct_system.specs.Name.{is_same_name, name_cmp, name_hash_input};
 ghost use Rattle.duct_system.specs.Origin.{Lent, origin};
 ghost use Rattle.duct_system.specs.Trace.{trace};
-ghost use Rattle.duct_system.specs.declared.system.Side.{Side};
 ghost use Rattle.duct_start.specs.Follows.{AsksPlan};
-ghost use Rattle.duct_start.specs.Plan.{Plan, capture_place, plan_of, plan_of_reader};
+ghost use Rattle.duct_start.specs.Plan.{Plan};
 ghost use Rattle.duct_start.specs.Sources.{IsDuplicate};
-ghost use Rattle.duct_start.specs.TreeView.{TreeView};
 ghost use Rattle.duct_run.specs.Kinds.{entry_kind, item_kind};
 ghost use Rattle.duct_laws.specs.Laws.{InnerRedirectionCounts, OverriddenStillOpens, SwapsCancel, InnerFolderReplaces, NearestVariableCounts, InnerVariableHides, InnerEnvironmentHides};
-ghost use Rattle.duct_laws.specs.Order.{captured, capture_place_in, has_capture, order_of, request_of, requests_of, requests_of_reader};
 
 use duct_base::spec::Hook;
 
@@ -38,30 +35,6 @@ pub fn settings<E, H>()
     ensures nearest { NearestVariableCounts E H }
     ensures variable { InnerVariableHides E H }
     ensures environment { InnerEnvironmentHides E H }
-{}
-
-/// The plan of a tree can be read off the order of its nodes alone: it makes the requests of each
-/// node, and the one capture pipe of a stream is opened by the first capture of it, if there is
-/// one.
-pub fn plans<E, H>()
-    ensures requests { (tree : TreeView E H)
-        → map (λ item. request_of item) (plan_of tree).items ≡ requests_of tree }
-    ensures place { (tree : TreeView E H) (stream : Side)
-        → capture_place stream (plan_of tree) ≡ capture_place_in (order_of tree) stream }
-    ensures capture { (tree : TreeView E H) (stream : Side)
-        → is_some (capture_place stream (plan_of tree)) ≡ has_capture (order_of tree) stream }
-{}
-
-/// The same of the plan of a reader's start, which has one more capture of stdout around the tree.
-pub fn reader_plans<E, H>()
-    ensures requests { (tree : TreeView E H)
-        → map (λ item. request_of item) (plan_of_reader tree).items ≡ requests_of_reader tree }
-    ensures place { (tree : TreeView E H) (stream : Side)
-        → capture_place stream (plan_of_reader tree)
-        ≡ capture_place_in (order_of (captured tree)) stream }
-    ensures capture { (tree : TreeView E H) (stream : Side)
-        → is_some (capture_place stream (plan_of_reader tree))
-        ≡ has_capture (order_of (captured tree)) stream }
 {}
 
 /// Entries that make the requests of a whole plan start a child, or a feed worker, or neither, each
