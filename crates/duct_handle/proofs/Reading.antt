@@ -1,7 +1,7 @@
 -- What is returned of a read that was waited for.
 use Rattle.std.proofs.Common.{◌≡◌, inl, inr, List, ℕ, subst, Ok, Err, Some}
 use Rattle.std.specs.Option.{IfSome}
-use Rattle.std.specs.Result.{IfErr, IfOk}
+use Rattle.std.specs.Result.{IfErr}
 use Rattle.std.specs.Str.{IsUtf8}
 use Rattle.std.specs.declared.alloc.Global.{Global}
 use Rattle.std.specs.declared.io.ErrorKind.{ErrorKind}
@@ -9,7 +9,6 @@ use Rattle.std.specs.declared.option.Option.{Option}
 use Rattle.std.specs.declared.result.Result.{Result}
 use Rattle.std.specs.declared.string.String.{String}
 use Rattle.std.specs.declared.sync.Arc.{Arc}
-use Rattle.std.specs.Prelude.{string_bytes}
 use Rattle.duct_base.specs.Pool.{PoolView}
 use Rattle.duct_system.specs.declared.error.Error.{Error}
 use Rattle.duct_system.specs.declared.error.Error.TheVariants as error
@@ -24,7 +23,7 @@ use Rattle.duct_running.specs.Allowed.{StoresAllowed}
 use Rattle.duct_running.specs.Polled.{Gives, ReturnsOutcome}
 use Rattle.duct_running.specs.Stays.{StaysSame}
 use Rattle.duct_running.specs.Stored.{Bytes, stored_in}
-use Rattle.duct_handle.specs.ReadsText.{EndsWell, FailsToRead, HasText, StopsReading}
+use Rattle.duct_handle.specs.ReadsText.{EndsWell, FailsToRead, StopsReading}
 use Rattle.duct_handle.specs.Trimmed.{trimmed}
 
 module _ {S E C F D : Type 0} (views : SystemViews S E C F D (Unit {0}) Bytes)
@@ -46,13 +45,6 @@ module _ {S E C F D : Type 0} (views : SystemViews S E C F D (Unit {0}) Bytes)
     ends_well = ends_by outcome.0 outcome.1 outcome.2
 
     module _ (bytes : List ℕ) (left : Option (List ℕ)) (told : IfSome left (λ all. bytes ≡ all)) where
-      -- the text of bytes that were read
-      pub has_text : (result : Result (String Global) Error)
-          → IfOk result (λ text. string_bytes text ≡ trimmed bytes)
-          → IfOk result (λ text. HasText views left text after)
-      has_text (Ok text) is = (bytes, told, is, ends_well)
-      has_text (Err e) is = tt
-
       -- bytes that are no text
       pub no_text : (result : Result (String Global) Error) (stopped : Option ErrorKind)
           → IfErr result (λ e. (e ≡ error.NotUtf8) × (IsUtf8 (trimmed bytes) → ⊥))

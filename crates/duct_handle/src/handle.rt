@@ -6,8 +6,6 @@ ghost use Rattle.duct_status.specs.ShapeView.{shape_view};
 ghost use Rattle.duct_running.specs.Answered.{IsAnswer};
 ghost use Rattle.duct_running.specs.NumbersView.{numbers_view};
 ghost use Rattle.duct_running.specs.Allowed.{OneRuns};
-ghost use Rattle.duct_running.specs.PolledOnce.{PolledOnce};
-ghost use Rattle.duct_running.specs.Stays.{StaysSame};
 ghost use Rattle.duct_handle.specs.Waited.{GivesAgain, KnowsIfEnded, Waited};
 
 use crate::lock::{Guard, Lock};

@@ -1,5 +1,5 @@
 //! One poll of what a handle runs.
-ghost use Rattle.std.specs.Prelude.{◌≡◌, ◌↔◌, IfOk, IfErr, IfSome, IsTrue, is_some, true, Ok, Err, None};
+ghost use Rattle.std.specs.Prelude.{◌≡◌, ◌↔◌, IfOk, IfErr, IfSome, IsTrue, Ok, Err, None};
 ghost use Rattle.std.specs.Arc.{arc_value};
 ghost use Rattle.duct_status.specs.ShapeView.{shape_view};
 ghost use Rattle.duct_running.specs.Answered.{ReturnsConclusion, IsAnswer, IsConcluded};

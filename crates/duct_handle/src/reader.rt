@@ -1,7 +1,6 @@
 //! The handle of an expression whose stdout is read from a pipe while it runs.
-ghost use Rattle.std.specs.Prelude.{ℕ, ◌≡◌, ◌<◌, ◌≤◌, List, length, IfOk, IfErr, OnErr, Ok, None};
+ghost use Rattle.std.specs.Prelude.{ℕ, ◌≡◌, ◌<◌, ◌≤◌, List, length, IfOk, Ok, None};
 ghost use Rattle.duct_system.specs.declared.error.Error.TheVariants as error;
-ghost use Rattle.duct_system.specs.declared.system.Fault.{Fault};
 ghost use Rattle.duct_system.specs.declared.system.Order.TheVariants.{Kill};
 ghost use Rattle.duct_status.specs.ShapeView.{shape_view};
 ghost use Rattle.duct_run.specs.Requested.{PoolGets};
@@ -9,7 +8,6 @@ ghost use Rattle.duct_running.specs.Answered.{IsAnswer};
 ghost use Rattle.duct_running.specs.Allowed.{OneRuns};
 ghost use Rattle.duct_handle.specs.Obeyed.{IsObeyed};
 ghost use Rattle.duct_handle.specs.Reads.{ClosesAs, KnowsOutput, ReadsAs};
-ghost use Rattle.duct_handle.specs.ReadsText.{IsReadFault};
 
 use crate::handle::{Handle, Seen};
 use crate::pipe::Pipe;

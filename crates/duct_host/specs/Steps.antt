@@ -5,7 +5,3 @@ use Rattle.duct_system.specs.Journal.{JournalView}
 -- only the count of numbers has changed, and it has not decreased
 abbrev pub OnlyCounts : JournalView → JournalView → Type 0
 OnlyCounts old new = (new ≡ record old { next = new.next }) × (old.next ≤ new.next)
-
--- only the room has changed
-abbrev pub OnlyRoom : JournalView → JournalView → Type 0
-OnlyRoom old new = new ≡ record old { room = new.room }

@@ -1,7 +1,6 @@
 //! From the spec of a command to a process.
-ghost use Rattle.std.specs.Prelude.{◌≡◌, ◌⊎◌, [], ◌∷◌, ◌++◌, length, map, string_bytes, IfOk, IfErr, OnOk};
+ghost use Rattle.std.specs.Prelude.{◌≡◌, ◌⊎◌, [], ◌∷◌, ◌++◌, map, string_bytes, IfOk, IfErr, OnOk};
 ghost use Rattle.std.specs.Process.{command_program, command_args, command_dir, SameProgramAndArgs, SameEnv, SameDir};
-ghost use Rattle.duct_system.specs.Streams.{stream_of, ends_of};
 ghost use Rattle.duct_system.specs.declared.system.Kind.TheVariants.{InvalidInput, OutOfMemory};
 ghost use Rattle.duct_host.specs.Commands.{IsCommandOf};
 ghost use Rattle.duct_host.specs.Variables.{IsWholeEnvironment, Sets};

@@ -1,6 +1,6 @@
 //! The children, workers and readers of a recorder, and what they note while its system runs: once
 //! for each child and each end.
-ghost use Rattle.std.specs.Prelude.{◌≡◌, Ok, Some, IfOk, OnErr};
+ghost use Rattle.std.specs.Prelude.{Ok, Some, IfOk};
 ghost use Rattle.duct_replay.specs.RecordingView.{MayEnd, MayGive, HasGiven, HasGivenAll, KeepsMore, bytes_of};
 ghost use Rattle.std.specs.Io.{ReadsAtMost};
 ghost use Rattle.std.specs.Io.KnownBytes.{ReadConsumes};

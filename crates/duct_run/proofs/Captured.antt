@@ -64,13 +64,6 @@ module _ {E H : Type 0} (allows : Allows H) (number_of : E → ℕ) (which : Sid
       → record { stack = st.stack; plan = if is_some o then st.plan else (opened st).plan } ≡ advance st (action.capture which)
   captured_if st o is = ap (λ (o : Option ℕ). record { stack = st.stack; plan = if is_some o then st.plan else (opened st).plan }) (sym is)
 
-  -- the pipe is open already
-  pub capture_same : (pair : ℕ × ℕ) (now : JournalView) (held : ResourcesView)
-      → at_side held.pipes which ≡ Some pair
-      → ActionSucceeds allows number_of (action.capture which) now now held held
-  capture_same pair now held is = λ context st ready invariant.
-      subst (λ (s : State E H). RunInvariant allows number_of context s now held) (captured_if st _ (open_place context st pair now held is invariant)) invariant
-
   opens : (context : RunContext) (st : State E H) (now : JournalView) (held : ResourcesView)
       → at_side held.pipes which ≡ None → RunInvariant allows number_of context st now held
       → opened st ≡ advance st (action.capture which)

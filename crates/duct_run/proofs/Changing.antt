@@ -281,14 +281,6 @@ module _ {E H : Type 0} (allows : Allows H) (refuses : Refuses H) (number_of : E
         subst (λ l. StopsAmongHooks allows refuses number_of context state held before l then u error) (append_assoc hooks first more)
         (b context state held before (hooks ++ first) low (back_below context.base below) (a context state held before hooks low (front_below context.base below) staged))
 
--- the same for an equal list of hooks
-pub alters_as : {E H : Type 0} (allows : Allows H) (number_of : E → ℕ)
-    (hooks others : List (H × List E)) (now then : JournalView) (spec made : SpecView)
-    (s t : PerStream (Stdio ℕ)) → hooks ≡ others
-    → HooksSucceed allows number_of hooks now then spec made s t
-    → HooksSucceed allows number_of others now then spec made s t
-alters_as allows number_of hooks others now then spec made s t is alters = subst (λ l. HooksSucceed allows number_of l now then spec made s t) is alters
-
 pub breaks_as : {E H : Type 0} (allows : Allows H) (refuses : Refuses H) (number_of : E → ℕ)
     (hooks others : List (H × List E)) (now then : JournalView) (spec : SpecView)
     (s t : PerStream (Stdio ℕ)) (error : Error) → hooks ≡ others

@@ -2,7 +2,7 @@
 use Rattle.std.proofs.Common.{◌≡◌, ℕ, [], ◌∷◌, ◌++◌, refl, ap, sym, ◌∙◌}
 use Rattle.std.proofs.lemmas.List.{append-nil, map-append}
 use Rattle.std.specs.Option.{option_to_list}
-use Rattle.std.specs.Prelude.{map, is_some, None, Some}
+use Rattle.std.specs.Prelude.{map, None, Some}
 use Rattle.std.specs.declared.option.Option.{Option}
 use Rattle.duct_system.specs.declared.system.Side.{Side}
 use Rattle.duct_system.specs.declared.system.Side.TheVariants.{Out, Err}
@@ -10,7 +10,6 @@ use Rattle.duct_status.specs.PerSide.{at_side, with_side}
 use Rattle.duct_status.specs.declared.per_side.PerSide.{PerSide}
 use Rattle.duct_run.specs.OutputRead.{pipe_view}
 use Rattle.duct_run.specs.ResourcesView.{both, pipes_view}
-use Rattle.duct_run.proofs.Turns.{some_mapped}
 
 -- the pipe of one side, by numbers
 pub pipe_at : {E : Type 0} (number_of : E → ℕ) (pipes : PerSide (Option (E × E))) (which : Side)
@@ -35,9 +34,3 @@ last_worker number drains Out job none last =
 last_worker number drains Err job none last =
     map-append number (option_to_list drains.out) (job ∷ [])
     ∙ sym (ap (λ o. map number (option_to_list drains.out ++ option_to_list o) ++ number job ∷ []) last ∙ ap (λ l. map number l ++ number job ∷ []) (append-nil (option_to_list drains.out)))
-
--- a pipe is open exactly if its view is
-pub some_at : {E : Type 0} (number_of : E → ℕ) (pipes : PerSide (Option (E × E))) (which : Side)
-    → is_some (at_side (pipes_view number_of pipes) which) ≡ is_some (at_side pipes which)
-some_at number_of pipes Out = some_mapped (λ ends. (number_of ends.0, number_of ends.1)) pipes.out
-some_at number_of pipes Err = some_mapped (λ ends. (number_of ends.0, number_of ends.1)) pipes.err

@@ -56,12 +56,6 @@ IsSpawnedBy gives allows number_of entries place found words spec =
     × HooksChange allows (hooks_by_origin number_of found.hooks) before after
     × (spec ≡ after.spec) × gives (after.input ∷ after.output ∷ after.error ∷ [])
 
--- the same, with streams of exactly these origins
-abbrev pub IsSpawnedAt : {E H : Type 0} → Allows H → (E → ℕ) → List EntryView → ℕ → Surroundings E H
-    → List (List ℕ) → SpecView → List (Stdio Origin) → Type 0
-IsSpawnedAt allows number_of entries place found words spec streams =
-    IsSpawnedBy (λ wanted. streams ≡ wanted) allows number_of entries place found words spec
-
 -- an entry of the trace matches the item at its place; a worker and the reader get an end of their
 -- own pipe
 abbrev pub AnswersBy : {E H : Type 0} → StreamsRelation → Allows H → (E → ℕ) → List EntryView → ℕ

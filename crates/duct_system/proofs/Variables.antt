@@ -1,5 +1,5 @@
 -- Lookups of variables that were set and removed.
-use Rattle.std.specs.Prelude.{ℕ, Bool, true, false, cond, not, List, [], ◌∷◌, ◌++◌, Some, None}
+use Rattle.std.specs.Prelude.{ℕ, Bool, true, false, cond, List, [], ◌∷◌, ◌++◌, Some, None}
 use Rattle.std.specs.declared.option.Option.{Option}
 use Rattle.std.specs.BTreeMap.{is_at}
 use Rattle.std.specs.Cmp.{IsTotalOrder, IsEquivalence, on_total, on_equiv}
@@ -15,7 +15,7 @@ use Rattle.std.proofs.lemmas.Map.{NonePasses}
 use Rattle.std.proofs.lemmas.Map.Entries.{none_below_head}
 use Rattle.std.proofs.lemmas.Map.Keys.{sorted_tail}
 use Rattle.duct_system.specs.Name.{name_form, is_same_name, name_cmp}
-use Rattle.duct_system.specs.SpecView.{Vars, AreOrdered, variable_in, with_var, without_var, spelled, last_value, said_of}
+use Rattle.duct_system.specs.SpecView.{Vars, AreOrdered, variable_in, with_var, spelled, last_value, said_of}
 
 -- names are lawful keys: an equivalence, and an order in which only equal names are Equal
 pub name_equiv : IsEquivalence is_same_name
@@ -89,39 +89,6 @@ module _ (name : List ℕ) where
   variable_in-with [] k v ordered = refl
   variable_in-with (e ∷ es) k v ordered =
       with_case e es k v (name_cmp k e.0) refl ordered (variable_in-with es k v (sorted_tail name_cmp e.0 (keys_of es) ordered))
-
-  without_case : (b c d : Bool) (e : List ℕ × List ℕ) (rest : Option (List ℕ × List ℕ))
-      → (b ≡ true → c ≡ d) →
-      cond (not c) (cond b (Some e) (cond d None rest)) (cond d None rest) ≡ cond d None (cond b (Some e) rest)
-  without_case true true true e rest same = refl
-  without_case true false false e rest same = refl
-  without_case true true false e rest same = let is = same refl in absurd (cc)
-  without_case true false true e rest same = let is = same refl in absurd (cc)
-  without_case false true true e rest same = refl
-  without_case false true false e rest same = refl
-  without_case false false true e rest same = refl
-  without_case false false false e rest same = refl
-
-  none_twice : (b : Bool) → variable_in name [] ≡ cond b None (variable_in name [])
-  none_twice true = refl
-  none_twice false = refl
-
-  -- a removed name is not found in any spelling, and no lookup of another name changes
-  pub variable_in-without : (vars : Vars) (k : List ℕ)
-      → variable_in name (without_var k vars)
-      ≡ cond (is_same_name name k) None (variable_in name vars)
-  variable_in-without [] k = none_twice (is_same_name name k)
-  variable_in-without (e ∷ es) k =
-      gone (not (is_same_name k e.0))
-      ∙ ap (λ r. cond (not (is_same_name k e.0)) (cond (is_same_name name e.0) (Some e) r) r) (variable_in-without es k)
-      ∙ without_case (is_same_name name e.0) (is_same_name k e.0) (is_same_name name k) e (variable_in name es)
-      (λ same. name_equiv.symm k e.0 ∙ sym (same_at name e.0 k same))
-    where
-      gone : (b : Bool) → variable_in name (cond b (e ∷ without_var k es) (without_var k es))
-          ≡ cond b (cond (is_same_name name e.0) (Some e) (variable_in name (without_var k es)))
-          (variable_in name (without_var k es))
-      gone true = refl
-      gone false = refl
 
   last_value-more : (vars : Vars) (value k v : List ℕ)
       → last_value name value (vars ++ (k, v) ∷ []) ≡ cond (is_same_name name k) v

@@ -1,5 +1,5 @@
 //! The wait for what runs, and the two orders that end it.
-ghost use Rattle.std.specs.Prelude.{◌≡◌, ◌⊎◌, true, false, pos, IfNone, IfSome, IsSome, Ok, Err, None};
+ghost use Rattle.std.specs.Prelude.{◌≡◌, ◌⊎◌, true, false, IfNone, IfSome, IsSome, Ok, Err, None};
 ghost use Rattle.std.specs.Duration.{as_nanos};
 ghost use Rattle.duct_system.specs.declared.error.Error.TheVariants as error;
 ghost use Rattle.duct_system.specs.declared.system.Order.TheVariants.{Kill};

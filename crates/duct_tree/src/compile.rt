@@ -14,7 +14,7 @@ ghost use Rattle.duct_run.specs.ScopeView.{scopes_view};
 ghost use Rattle.duct_tree.specs.EffectView.{effect_view, input_route_view, opening_view, output_route_view, says_view};
 ghost use Rattle.duct_tree.specs.NodeContextView.{source_view, sources_view};
 ghost use Rattle.duct_tree.specs.ActionListView.{closings, action_list_view, openings, with_ending, with_scope, with_tree};
-ghost use Rattle.duct_tree.specs.NodeView.{modifier_view, node_view};
+ghost use Rattle.duct_tree.specs.NodeView.{node_view};
 
 mod action_list;
 mod context;

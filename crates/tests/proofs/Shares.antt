@@ -50,7 +50,7 @@ script_handle_sync = handle_sync Script.the_row ScriptEnd.the_row ScriptChild.th
 pub waits_send : (ν : Sym) (ℓ ℓ' : Lifetime) (κ κ' : Lft) (R : RattleType) → IsSync R
     → IsSend (TupleAt ν (ShrRef ℓ κ R ∷ ShrRef ℓ' κ' script_handle ∷ []))
 waits_send ν ℓ ℓ' κ κ' R runtime =
-    two_refs_send ν ℓ ℓ' ℓ κ κ' κ R script_handle R runtime script_handle_sync
+    two_refs_send ν ℓ ℓ' κ κ' R script_handle runtime script_handle_sync
 
 -- a reader handle of the scripted system that keeps a runtime of this type
 abbrev pub script_reader : RattleType → RattleType
