@@ -18,7 +18,7 @@ use Rattle.duct_run.proofs.Leaving.{takes_in}
 use Rattle.duct_start.specs.Left.{Leaves, pool_view}
 use Rattle.duct_system.specs.SystemViews.{SystemViews}
 use Rattle.duct_running.specs.NumbersView.{numbers_of}
-use Rattle.duct_running.specs.Stays.{StaysSame}
+use Rattle.duct_running.specs.Polled.{StaysSame}
 use Rattle.duct_running.specs.Stored.{Bytes}
 use Rattle.duct_handle.proofs.Beginning.{are_numbers}
 use Rattle.duct_handle.specs.Finished.{RanUntilGiven}

@@ -13,8 +13,7 @@ use Rattle.duct_run.proofs.Counted.{list_captures}
 use Rattle.duct_run.proofs.ListedOutwards.{listed_outwards}
 use Rattle.duct_run.proofs.Resolved.{list_resolves}
 use Rattle.duct_run.proofs.Within.{listed_within}
-use Rattle.duct_run.specs.ActionView.{actions_view}
-use Rattle.duct_run.specs.ScopeView.{all_scopes, scopes_view}
+use Rattle.duct_run.specs.ActionView.{actions_view, all_scopes, scopes_view}
 use Rattle.duct_run.specs.declared.action.Action.{Action}
 use Rattle.duct_run.specs.declared.scope.Scope as declared
 

@@ -19,8 +19,7 @@ use Rattle.duct_system.specs.SystemViews.{SystemViews}
 use Rattle.duct_running.specs.Allowed.{StoresAllowed}
 use Rattle.duct_running.specs.Answered.{IsConcluded}
 use Rattle.duct_running.specs.NumbersView.{numbers_of}
-use Rattle.duct_running.specs.Polled.{Gives, IsOutput, ReturnsOutcome}
-use Rattle.duct_running.specs.Stays.{StaysSame}
+use Rattle.duct_running.specs.Polled.{Gives, IsOutput, ReturnsOutcome, StaysSame}
 use Rattle.duct_running.specs.Stored.{Bytes, stored_in}
 use Rattle.duct_handle.specs.Finished.{RanUntil, RanUntilGiven, StoresError, StoresReply}
 use Rattle.duct_handle.specs.Waited.{at_end}

@@ -20,11 +20,9 @@ use Rattle.duct_start.specs.Running.{RunningView}
 use Rattle.duct_run.specs.Requested.{PoolGets}
 use Rattle.duct_system.specs.SystemViews.{SystemViews}
 use Rattle.duct_running.specs.Allowed.{StoresAllowed}
-use Rattle.duct_running.specs.Polled.{Gives, ReturnsOutcome}
-use Rattle.duct_running.specs.Stays.{StaysSame}
+use Rattle.duct_running.specs.Polled.{Gives, ReturnsOutcome, StaysSame}
 use Rattle.duct_running.specs.Stored.{Bytes, stored_in}
-use Rattle.duct_handle.specs.ReadsText.{EndsWell, FailsToRead, StopsReading}
-use Rattle.duct_handle.specs.Trimmed.{trimmed}
+use Rattle.duct_handle.specs.ReadsText.{EndsWell, FailsToRead, StopsReading, trimmed}
 
 module _ {S E C F D : Type 0} (views : SystemViews S E C F D (Unit {0}) Bytes)
     (before after : RunningView C F D) where

@@ -16,8 +16,7 @@ use Rattle.duct_running.specs.Polled.{Polled}
 use Rattle.duct_running.specs.Allowed.{OneRuns}
 use Rattle.duct_running.specs.NumbersView.{NumbersView}
 use Rattle.duct_running.specs.Stored.{Bytes}
-use Rattle.duct_handle.specs.AnswerView.{answer_view}
-use Rattle.duct_handle.specs.HandleView.{HandleView, PublishedView, SeenView}
+use Rattle.duct_handle.specs.HandleView.{answer_view, HandleView, PublishedView, SeenView}
 use Rattle.duct_handle.specs.Waited.{GivesAgain, IsNoEnding, KnowsIfEnded, Waited}
 use Rattle.duct_handle.specs.declared.published.Answer.{Answer}
 

@@ -10,8 +10,7 @@ use Rattle.duct_start.specs.Running.{RunningView}
 use Rattle.duct_run.specs.Requested.{PoolGets}
 use Rattle.duct_system.specs.SystemViews.{SystemViews}
 use Rattle.duct_running.specs.Allowed.{StoresAllowed}
-use Rattle.duct_running.specs.Polled.{ReturnsOutcome}
-use Rattle.duct_running.specs.Stays.{StaysSame}
+use Rattle.duct_running.specs.Polled.{ReturnsOutcome, StaysSame}
 use Rattle.duct_running.specs.Stored.{Bytes, stored_in}
 
 module _ {S E C F D : Type 0} (views : SystemViews S E C F D (Unit {0}) Bytes) where

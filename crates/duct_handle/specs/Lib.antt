@@ -1,12 +1,8 @@
-pub mod AnswerView
 pub mod AreGiven
-pub mod Deadline
 pub mod Finished
 pub mod HandleView
 pub mod Obeyed
 pub mod Started
 pub mod Waited
-pub mod ErrorKinds
 pub mod Reads
 pub mod ReadsText
-pub mod Trimmed

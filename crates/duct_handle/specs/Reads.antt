@@ -11,6 +11,9 @@ use Rattle.duct_system.specs.SystemViews.{SystemViews}
 use Rattle.duct_running.specs.Stored.{Bytes}
 use Rattle.duct_handle.specs.HandleView.{HandleView, SeenView}
 use Rattle.duct_handle.specs.Waited.{IsOf, Waited, at_end}
+use Rattle.std.specs.declared.io.ErrorKind.{ErrorKind}
+use Rattle.std.specs.declared.io.ErrorKind.TheVariants as kind
+use Rattle.duct_system.specs.Kinds.{name_of}
 
 -- what a read returns after a wait: no bytes, or the error of the wait
 abbrev pub at_close : Result (Arc Output Global) Error → Result ℕ Error
@@ -39,3 +42,13 @@ module _ {S E C F D : Type 0} (views : SystemViews S E C F D (Unit {0}) Bytes) w
       (waited : Result (Arc Output Global) Error)
       × Waited views handle before after (at_end waited)
       × (result ≡ at_close waited)
+
+-- the kind of a fault, `OutOfMemory` for an allocation failure, and `Other` for each other error
+abbrev pub kind_read : Error → ErrorKind
+kind_read (error.System fault) = name_of fault.kind
+kind_read error.Memory = kind.OutOfMemory
+kind_read (error.Checked text) = kind.Other
+kind_read error.NotUtf8 = kind.Other
+kind_read (error.Hook fault) = kind.Other
+kind_read (error.HookEnd place) = kind.Other
+kind_read error.Deadline = kind.Other

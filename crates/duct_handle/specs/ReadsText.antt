@@ -1,5 +1,5 @@
 -- What is returned of all bytes of a start's reader.
-use Rattle.std.specs.Prelude.{ℕ, ◌≡◌, ◌⊎◌, List, IfSome, string_bytes}
+use Rattle.std.specs.Prelude.{ℕ, ◌≡◌, ◌⊎◌, List, IfSome, string_bytes, Bool, if◌then◌else◌, ◌==◌, ◌||◌, [], ◌∷◌}
 use Rattle.std.specs.Str.{IsUtf8}
 use Rattle.std.specs.declared.alloc.Global.{Global}
 use Rattle.std.specs.declared.io.ErrorKind.{ErrorKind}
@@ -15,10 +15,23 @@ use Rattle.duct_start.specs.Running.{RunningView}
 use Rattle.duct_base.specs.Transfer.{IsDrainFault}
 use Rattle.duct_run.specs.Requested.{PoolGets}
 use Rattle.duct_system.specs.SystemViews.{SystemViews}
-use Rattle.duct_running.specs.Stays.{StaysSame}
+use Rattle.duct_running.specs.Polled.{StaysSame}
 use Rattle.duct_running.specs.Stored.{Bytes}
 use Rattle.duct_handle.specs.Finished.{RanUntil, RanUntilGiven, StoresError, StoresReply}
-use Rattle.duct_handle.specs.Trimmed.{trimmed}
+
+-- a newline or a carriage return
+abbrev pub is_line_end : ℕ → Bool
+is_line_end byte = (byte == 10) || (byte == 13)
+
+-- a byte before what is left of those after it: a line end is dropped if none of them is left
+abbrev pub before : ℕ → List ℕ → List ℕ
+before byte [] = if is_line_end byte then [] else (byte ∷ [])
+before byte (next ∷ rest) = byte ∷ next ∷ rest
+
+-- the bytes without their longest suffix of newlines and carriage returns
+abbrev pub trimmed : List ℕ → List ℕ
+trimmed [] = []
+trimmed (byte ∷ rest) = before byte (trimmed rest)
 
 -- the error is the fault of what stopped a reader
 abbrev pub IsReadFault : Option ErrorKind → Error → Type 0

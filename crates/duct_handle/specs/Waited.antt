@@ -1,5 +1,5 @@
 -- What a wait returns, and what its token knows then.
-use Rattle.std.specs.Prelude.{◌≡◌, ◌⊎◌, IfSome, IsSomeAnd, Ok, Err, Some, None}
+use Rattle.std.specs.Prelude.{◌≡◌, ◌⊎◌, IfSome, IsSomeAnd, Ok, Err, Some, None, ◌+◌}
 use Rattle.std.specs.declared.alloc.Global.{Global}
 use Rattle.std.specs.declared.result.Result.{Result}
 use Rattle.std.specs.declared.sync.Arc.{Arc}
@@ -12,8 +12,9 @@ use Rattle.duct_running.specs.Answered.{IsAnswer}
 use Rattle.duct_running.specs.Polled.{Gives, Polled}
 use Rattle.duct_running.specs.Stored.{Bytes}
 use Rattle.duct_running.specs.Allowed.{OneRuns}
-use Rattle.duct_handle.specs.AnswerView.{answer_view}
-use Rattle.duct_handle.specs.HandleView.{HandleView, PublishedView, SeenView}
+use Rattle.duct_handle.specs.HandleView.{answer_view, HandleView, PublishedView, SeenView}
+use Rattle.std.specs.Duration.{as_nanos, FitsDuration}
+use Rattle.std.specs.declared.time.Duration.{Duration}
 
 -- what a token knows belongs to this handle, and gives this result
 pub record IsOf (handle : HandleView) (polled : Polled) (known : PublishedView) : Type 0 where
@@ -58,3 +59,13 @@ module _ {S E C F D : Type 0} (views : SystemViews S E C F D (Unit {0}) Bytes) w
     pub knows : KnowsIfEnded handle after polled
     pub kept : IfSome before.known (λ known. after.known ≡ Some known)
     pub again : IfSome before.known (λ known. GivesAgain handle known polled)
+
+-- the clock may show a moment whose sum with the timeout is a `Duration`
+abbrev pub IsTimely : (Duration → Type 0) → Duration → Type 0
+IsTimely shows timeout =
+    (moment : Duration) × shows moment × FitsDuration (as_nanos moment + as_nanos timeout)
+
+-- the clock may show a moment whose sum with the timeout is no `Duration`
+abbrev pub IsLate : (Duration → Type 0) → Duration → Type 0
+IsLate shows timeout =
+    (moment : Duration) × shows moment × (FitsDuration (as_nanos moment + as_nanos timeout) → ⊥)

@@ -1,7 +1,7 @@
 //! Errors of the library as errors of std.
 ghost use Rattle.std.specs.Prelude.{◌≡◌};
 ghost use Rattle.std.specs.IoError.{error_kind};
-ghost use Rattle.duct_handle.specs.ErrorKinds.{kind_read};
+ghost use Rattle.duct_handle.specs.Reads.{kind_read};
 
 use duct_base::error::Error;
 use std::io;

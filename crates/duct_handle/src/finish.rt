@@ -3,8 +3,7 @@ ghost use Rattle.std.specs.Prelude.{◌≡◌, IfErr, IfOk, OnOk};
 ghost use Rattle.duct_status.specs.ReplyView.{answered};
 ghost use Rattle.duct_running.specs.Allowed.{StoresAllowed};
 ghost use Rattle.duct_running.specs.Ordered.{IsUnordered};
-ghost use Rattle.duct_running.specs.Polled.{ReturnsOutcome};
-ghost use Rattle.duct_running.specs.Stays.{StaysSame};
+ghost use Rattle.duct_running.specs.Polled.{ReturnsOutcome, StaysSame};
 ghost use Rattle.duct_handle.specs.Finished.{RanUntil, RanUntilGiven, StoresError, StoresReply};
 ghost use Rattle.duct_handle.specs.Waited.{at_end};
 

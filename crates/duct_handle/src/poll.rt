@@ -4,11 +4,9 @@ ghost use Rattle.std.specs.Arc.{arc_value};
 ghost use Rattle.duct_status.specs.ShapeView.{shape_view};
 ghost use Rattle.duct_running.specs.Answered.{ReturnsConclusion, IsAnswer, IsConcluded};
 ghost use Rattle.duct_running.specs.NumbersView.{numbers_of, numbers_view};
-ghost use Rattle.duct_running.specs.Polled.{ReturnsOutcome};
-ghost use Rattle.duct_running.specs.PolledOnce.{PolledOnce};
-ghost use Rattle.duct_running.specs.Stays.{StaysSame};
+ghost use Rattle.duct_running.specs.Polled.{ReturnsOutcome, PolledOnce, StaysSame};
 ghost use Rattle.duct_running.specs.Allowed.{OneRuns, StoresAllowed};
-ghost use Rattle.duct_handle.specs.AnswerView.{answer_view};
+ghost use Rattle.duct_handle.specs.HandleView.{answer_view};
 ghost use Rattle.duct_handle.specs.Waited.{IsNoEnding};
 
 use crate::published::{Answer, Published};

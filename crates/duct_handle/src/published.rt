@@ -4,7 +4,7 @@ ghost use Rattle.std.specs.Prelude.{IfSome};
 ghost use Rattle.duct_status.specs.ShapeView.{shape_view};
 ghost use Rattle.duct_running.specs.Answered.{Concluded};
 ghost use Rattle.duct_running.specs.NumbersView.{numbers_view};
-ghost use Rattle.duct_handle.specs.AnswerView.{answer_view};
+ghost use Rattle.duct_handle.specs.HandleView.{answer_view};
 
 use duct_base::status::Shape;
 use duct_base::system::{Child, Job, Output, System};

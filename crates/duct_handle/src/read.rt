@@ -1,7 +1,7 @@
 //! The text of all that a start writes to its pipe, without a lock.
 ghost use Rattle.std.specs.Prelude.{◌≡◌, IfErr, IfOk, None, OnOk};
 ghost use Rattle.duct_running.specs.Ordered.{IsUnordered};
-ghost use Rattle.duct_running.specs.Stays.{StaysSame};
+ghost use Rattle.duct_running.specs.Polled.{StaysSame};
 ghost use Rattle.duct_handle.specs.ReadsText.{FailsToRead, HasText, ReadsText, StopsReading};
 
 use crate::finish::wait_for;

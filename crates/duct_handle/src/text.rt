@@ -2,7 +2,7 @@
 ghost use Rattle.std.specs.Prelude.{◌≡◌, IfOk, IfErr, take, string_bytes};
 ghost use Rattle.std.specs.Str.{IsUtf8};
 ghost use Rattle.duct_system.specs.declared.error.Error.TheVariants.{NotUtf8};
-ghost use Rattle.duct_handle.specs.Trimmed.{is_line_end, trimmed};
+ghost use Rattle.duct_handle.specs.ReadsText.{is_line_end, trimmed};
 
 use duct_base::error::Error;
 

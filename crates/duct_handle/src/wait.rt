@@ -4,8 +4,7 @@ ghost use Rattle.std.specs.Prelude.{◌≡◌, ◌⊎◌, is_some, true, IfSome,
 ghost use Rattle.duct_status.specs.ShapeView.{shape_view};
 ghost use Rattle.duct_running.specs.Answered.{IsAnswer};
 ghost use Rattle.duct_running.specs.Allowed.{OneRuns};
-ghost use Rattle.duct_handle.specs.Deadline.{IsLate, IsTimely};
-ghost use Rattle.duct_handle.specs.Waited.{Waited, at_end};
+ghost use Rattle.duct_handle.specs.Waited.{IsLate, IsTimely, Waited, at_end};
 
 use crate::handle::{Handle, Seen};
 use duct_base::error::Error;

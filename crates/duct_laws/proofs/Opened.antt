@@ -5,8 +5,7 @@ use Rattle.std.specs.Prelude.{Some, None, is_some, if◌then◌else◌}
 use Rattle.std.specs.declared.option.Option.{Option}
 use Rattle.std.proofs.lemmas.List.{append-nil}
 use Rattle.duct_status.specs.PerSide.{at_side}
-use Rattle.duct_start.specs.Lookup.{surroundings_on}
-use Rattle.duct_start.specs.Path.{Path, left_of, right_of, within}
+use Rattle.duct_start.specs.Lookup.{surroundings_on, Path, left_of, right_of, within}
 use Rattle.duct_start.specs.Plan.{Plan, with_item, with_opening, place_for, plan_of_subtree}
 use Rattle.duct_start.specs.Step.{Item, Opening, OpensNothing, Opens, Captures, AskPipe, step}
 use Rattle.duct_start.specs.TreeView.{TreeView, command, pipe, around}

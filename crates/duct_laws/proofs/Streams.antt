@@ -9,8 +9,7 @@ use Rattle.duct_system.specs.declared.spec.Stream.TheVariants.{In, Out, Err}
 use Rattle.duct_laws.specs.Laws.{InnerRedirectionCounts, SwapsCancel}
 use Rattle.duct_laws.specs.Redirected.{redirected}
 use Rattle.duct_start.specs.Surroundings.{Target}
-use Rattle.duct_start.specs.Lookup.{resolved_turn, stream_goes, folder_on, changes_on, hooks_on, surroundings_on}
-use Rattle.duct_start.specs.Path.{Path, within, segment_place, step_of}
+use Rattle.duct_start.specs.Lookup.{resolved_turn, stream_goes, folder_on, changes_on, hooks_on, surroundings_on, Path, within, segment_place, step_of}
 use Rattle.duct_start.specs.Step.{Turn, Decides, DefersTo, step}
 use Rattle.duct_start.specs.TreeView.{ModifierView, stdin_bytes, stdin_path, stdin_file, stdin_null, stdout_path, stdout_file, stdout_null, stdout_capture, stdout_to_stderr, stderr_path, stderr_file, stderr_null, stderr_capture, stderr_to_stdout, stdout_stderr_swap, dir, env, env_remove, full_env, unchecked, before_spawn}
 

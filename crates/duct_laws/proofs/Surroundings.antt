@@ -7,8 +7,7 @@ use Rattle.duct_system.specs.Name.{is_same_name}
 use Rattle.duct_system.specs.SpecView.{Vars, spelled}
 use Rattle.duct_system.proofs.Variables.{name_equiv, same_at}
 use Rattle.duct_start.specs.Surroundings.{VariableChange, Sets, Removes, Replaces, variable, value_found}
-use Rattle.duct_start.specs.Lookup.{changes_on}
-use Rattle.duct_start.specs.Path.{Path, within, step_of}
+use Rattle.duct_start.specs.Lookup.{changes_on, Path, within, step_of}
 use Rattle.duct_start.specs.TreeView.{env, full_env}
 use Rattle.duct_laws.specs.Laws.{InnerEnvironmentHides, InnerFolderReplaces, InnerVariableHides, NearestVariableCounts}
 

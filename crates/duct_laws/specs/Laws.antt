@@ -3,8 +3,7 @@ use Rattle.std.specs.Prelude.{ℕ, List, [], ◌∷◌, ◌++◌, ◌≡◌, tru
 use Rattle.duct_system.specs.Name.{is_same_name}
 use Rattle.duct_system.specs.SpecView.{Vars}
 use Rattle.duct_system.specs.declared.spec.Stream.{Stream}
-use Rattle.duct_start.specs.Lookup.{changes_on, folder_on, surroundings_on}
-use Rattle.duct_start.specs.Path.{Path, within}
+use Rattle.duct_start.specs.Lookup.{changes_on, folder_on, surroundings_on, Path, within}
 use Rattle.duct_start.specs.Plan.{Plan, plan_of_subtree}
 use Rattle.duct_start.specs.Step.{Item, Opens, step}
 use Rattle.duct_start.specs.Surroundings.{value_found, variable}

@@ -4,7 +4,7 @@ use Rattle.std.proofs.lemmas.List.{append-nil, map-append}
 use Rattle.std.specs.Prelude.{map}
 use Rattle.duct_system.specs.EntryView.{EntryView, Close}
 use Rattle.duct_system.specs.Journal.{JournalView, GivesEnds}
-use Rattle.duct_run.specs.Closes.{Closes}
+use Rattle.duct_run.specs.GivesUp.{Closes}
 
 -- nothing was closed
 pub closes_none : (now : JournalView) → Closes [] now now

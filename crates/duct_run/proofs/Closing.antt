@@ -18,7 +18,7 @@ use Rattle.duct_system.specs.declared.error.Error.TheVariants.{System, Checked, 
 use Rattle.duct_system.specs.declared.system.Fault.{Fault}
 use Rattle.duct_start.specs.Causes.{IsCausedOrMemory, ReturnsLastFault, StoppedBy, asked_in, last_fault}
 use Rattle.duct_start.specs.Chain.{Allows, Refuses}
-use Rattle.duct_run.specs.Closes.{Closes}
+use Rattle.duct_run.specs.GivesUp.{Closes}
 use Rattle.duct_run.specs.Commands.{StoppedWithCause}
 use Rattle.duct_start.specs.Follows.{AsksPlan, Follows}
 use Rattle.duct_run.specs.ResourcesView.{ResourcesView, open_ends}

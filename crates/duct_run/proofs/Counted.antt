@@ -28,10 +28,9 @@ use Rattle.duct_start.specs.Surroundings.{Surroundings}
 use Rattle.duct_run.specs.ResourcesView.{ResourcesView}
 use Rattle.duct_run.specs.ActionList.{list_of, resolved, resolved_all, scopes_from}
 use Rattle.duct_run.specs.Kinds.{ItemKind, of_spawn, of_feed, of_other, entry_kind, item_kind, spawns, feeds, spawns_asked, feeds_asked}
-use Rattle.duct_start.specs.Path.{Path, left_of, right_of, within}
+use Rattle.duct_start.specs.Lookup.{Path, left_of, right_of, within, surroundings_on}
 use Rattle.duct_start.specs.ShapeOfTree.{shape_around, shape_of_tree}
 use Rattle.duct_run.specs.RunInvariant.{RunContext, RunInvariant}
-use Rattle.duct_start.specs.Lookup.{surroundings_on}
 use Rattle.duct_run.proofs.Ceiling.{ceiling, ends_below}
 use Rattle.duct_start.specs.Row.{RowOpening, opens_nothing, opens_input, opens_read, opens_create, opens_capture, row}
 use Rattle.duct_start.specs.Step.{Item, AskPipe, opening_of, step}

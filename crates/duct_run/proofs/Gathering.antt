@@ -9,7 +9,7 @@ use Rattle.std.proofs.Common.{Global, ◌≡◌, refl, ap, sym, ◌∙◌, appen
 use Rattle.std.proofs.lemmas.List.{append-nil, map-append}
 use Rattle.duct_system.specs.SpecView.{Vars, said_of, var_view, variable_in}
 use Rattle.duct_start.specs.Surroundings.{VariableChange, Replaces, variable}
-use Rattle.duct_run.specs.Changes.{change_of, changes_of, whole_of}
+use Rattle.duct_run.specs.Settings.{change_of, changes_of, whole_of}
 use Rattle.duct_run.specs.declared.variables.VariableChange as declared
 use Rattle.duct_run.specs.declared.variables.Changes.{Changes}
 use Rattle.duct_run.proofs.Changed.{found_behind}

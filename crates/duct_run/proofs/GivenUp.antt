@@ -11,9 +11,9 @@ use Rattle.duct_system.specs.Ledger.{count_of}
 use Rattle.duct_system.specs.Trace.{segment}
 use Rattle.duct_system.specs.declared.error.Error.{Error}
 use Rattle.duct_start.specs.Chain.{Allows, Refuses}
-use Rattle.duct_run.specs.Closes.{Closes}
+use Rattle.duct_run.specs.GivesUp.{Closes}
 use Rattle.duct_run.specs.Commands.{StoppedWithCause}
-use Rattle.duct_run.specs.ResourcesView.{ResourcesView, open_ends, ends_of_pipes, AreNew, resources_view}
+use Rattle.duct_run.specs.ResourcesView.{ResourcesView, open_ends, ends_of_pipes, AreNew, resources_view, ends_of_resources}
 use Rattle.duct_start.specs.Left.{Leaves, LeavesStarted, pool_view}
 use Rattle.duct_start.specs.Plan.{Plan}
 use Rattle.duct_run.specs.RunInvariant.{RunContext}
@@ -24,7 +24,6 @@ use Rattle.duct_start.specs.TreeView.{TreeView}
 use Rattle.duct_run.proofs.Closing.{refused_closed, refused_children, refused_room}
 use Rattle.duct_start.proofs.Counts.{count-append, count-reverse}
 use Rattle.duct_run.proofs.Leaving.{leaves_started}
-use Rattle.duct_run.specs.ResourceEnds.{ends_of_resources}
 use Rattle.duct_run.specs.declared.resources.Resources.{Resources}
 
 module _ {E H C F D V W : Type 0} (allows : Allows H) (refuses : Refuses H) (number_of : E → ℕ) (child : C → ChildView) (feed : F → JobView V) (drain : D → JobView W)

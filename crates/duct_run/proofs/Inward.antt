@@ -3,8 +3,7 @@ use Rattle.std.proofs.Common.{◌≡◌, ◌∷◌, length, refl, ap, ◌∙◌}
 use Rattle.duct_system.specs.declared.spec.Stream.TheVariants.{In, Out, Err}
 use Rattle.duct_start.specs.Surroundings.{target_of}
 use Rattle.duct_run.proofs.PlanInward.{surroundings_within, plan_inward}
-use Rattle.duct_start.specs.Lookup.{stream_goes, resolved_turn, surroundings_on}
-use Rattle.duct_start.specs.Path.{Path, PathSegment, left_of, right_of, within, segment_place, step_of}
+use Rattle.duct_start.specs.Lookup.{stream_goes, resolved_turn, surroundings_on, Path, PathSegment, left_of, right_of, within, segment_place, step_of}
 use Rattle.duct_start.specs.Plan.{Plan, with_item, with_opening, place_for, with_closing, plan_of_subtree}
 use Rattle.duct_start.specs.Step.{Turn, Decides, DefersTo, AskPipe, step}
 use Rattle.duct_start.specs.TreeView.{TreeView, command, pipe, around}

@@ -7,7 +7,7 @@ use Rattle.duct_run.specs.Flat.{root_scope, scope_inside}
 use Rattle.duct_run.specs.ActionList.{AreOutwards, scope_in}
 use Rattle.duct_start.specs.Step.{step_of_setting}
 use Rattle.duct_run.proofs.ScopeIn.{scope_in_root, scope_in_next}
-use Rattle.duct_run.specs.ScopeView.{scope_view, scopes_view, setting_view}
+use Rattle.duct_run.specs.ActionView.{scope_view, scopes_view, setting_view}
 use Rattle.duct_run.specs.declared.scope.Scope.{Scope}
 
 -- this scope was read at an index that is not the root's

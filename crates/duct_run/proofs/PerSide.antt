@@ -8,8 +8,7 @@ use Rattle.duct_system.specs.declared.system.Side.{Side}
 use Rattle.duct_system.specs.declared.system.Side.TheVariants.{Out, Err}
 use Rattle.duct_status.specs.PerSide.{at_side, with_side}
 use Rattle.duct_status.specs.declared.per_side.PerSide.{PerSide}
-use Rattle.duct_run.specs.OutputRead.{pipe_view}
-use Rattle.duct_run.specs.ResourcesView.{both, pipes_view}
+use Rattle.duct_run.specs.ResourcesView.{pipe_view, both, pipes_view}
 
 -- the pipe of one side, by numbers
 pub pipe_at : {E : Type 0} (number_of : E → ℕ) (pipes : PerSide (Option (E × E))) (which : Side)

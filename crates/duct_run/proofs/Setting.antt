@@ -8,9 +8,8 @@ use Rattle.std.proofs.lemmas.List.{append-nil}
 use Rattle.duct_system.specs.SpecView.{Vars}
 use Rattle.duct_start.specs.Surroundings.{variable}
 use Rattle.duct_run.specs.Actions.{Scope}
-use Rattle.duct_run.specs.Changes.{changes_of}
+use Rattle.duct_run.specs.Settings.{changes_of, Sets, hooks_of}
 use Rattle.duct_run.specs.Flat.{root_scope}
-use Rattle.duct_run.specs.Settings.{Sets, hooks_of}
 use Rattle.duct_run.specs.declared.settings.Settings.{Settings}
 
 -- a hook behind others comes before them

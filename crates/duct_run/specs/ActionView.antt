@@ -1,16 +1,42 @@
 -- Actions as contracts see them.
-use Rattle.std.specs.Prelude.{ℕ, List, map, string_bytes}
+use Rattle.std.specs.Prelude.{ℕ, List, map, string_bytes, [], ◌∷◌}
 use Rattle.std.specs.Arc.{arc_value}
 use Rattle.std.specs.declared.string.String.{String}
 use Rattle.duct_system.specs.declared.spec.Port.{Port}
 use Rattle.duct_run.specs.Actions as action
-use Rattle.duct_run.specs.ActionList.{resolved_all, scope_in}
-use Rattle.duct_run.specs.Actions.{ActionOf, PerStream}
-use Rattle.duct_run.specs.ScopeView.{all_scopes, scopes_view}
+use Rattle.duct_run.specs.ActionList.{resolved_all, scope_in, ScopeEntry, scopes_from}
+use Rattle.duct_run.specs.Actions.{ActionOf, PerStream, Scope}
 use Rattle.duct_run.specs.declared.action.Action.{Action}
 use Rattle.duct_run.specs.declared.action.Action.TheVariants.{OpenRead, Create, Pipe, Input, Capture, Duplicate, DuplicateCapture, DuplicateCallerEnd, Parent, Close, Spawn, Feed}
 use Rattle.duct_run.specs.declared.action.Ports.{Ports}
 use Rattle.duct_run.specs.declared.scope.Scope.{Scope}
+use Rattle.duct_system.specs.SpecView.{var_view}
+use Rattle.duct_run.specs.Flat.{root_scope}
+use Rattle.duct_start.specs.Surroundings.{Sets, Removes, Replaces}
+use Rattle.duct_start.specs.Row.{SettingView, says_folder, says_change, says_hook}
+use Rattle.duct_run.specs.declared.scope.Setting.{Setting}
+use Rattle.duct_run.specs.declared.scope.Setting.TheVariants.{Dir, Env, EnvRemove, FullEnv, BeforeSpawn}
+use Rattle.duct_run.specs.declared.scope.Scope as declared
+
+-- what the node of a scope sets
+abbrev pub setting_view : {E H : Type 0} → Setting E H → SettingView E H
+setting_view (Dir path) = says_folder path.now
+setting_view (Env name value) = says_change (Sets name.now value.now)
+setting_view (EnvRemove name) = says_change (Removes name.now)
+setting_view (FullEnv vars) = says_change (Replaces (map var_view vars.now.entries))
+setting_view (BeforeSpawn hook ends) = says_hook hook.now ends.now
+
+-- a scope with the index of the scope outside it
+abbrev pub scope_view : {E H : Type 0} → declared.Scope E H → ScopeEntry E H
+scope_view scope = (setting_view scope.setting, scope.outer)
+
+-- the scopes of a list
+abbrev pub scopes_view : {E H : Type 0} → List (declared.Scope E H) → List (ScopeEntry E H)
+scopes_view scopes = map (λ s. scope_view s) scopes
+
+-- what each scope of a list sets for its commands, the root's first
+abbrev pub all_scopes : {E H : Type 0} → List (declared.Scope E H) → List (Scope E H)
+all_scopes scopes = scopes_from (root_scope ∷ []) (scopes_view scopes)
 
 -- the ports of three streams
 abbrev pub ports_view : Ports → PerStream Port

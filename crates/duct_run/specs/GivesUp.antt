@@ -1,5 +1,5 @@
 -- A run that failed and gave up its resources.
-use Rattle.std.specs.Prelude.{ℕ, List, []}
+use Rattle.std.specs.Prelude.{ℕ, List, [], ◌+◌, ◌≤◌, ◌≡◌, ◌++◌, length, map}
 use Rattle.duct_base.specs.Pool.{PoolView, IsGiven}
 use Rattle.duct_system.specs.Child.{Answer, ChildView}
 use Rattle.duct_system.specs.Job.{JobView}
@@ -7,12 +7,18 @@ use Rattle.duct_system.specs.Journal.{JournalView}
 use Rattle.duct_system.specs.declared.error.Error.{Error}
 use Rattle.duct_run.specs.Actions.{Action}
 use Rattle.duct_start.specs.Chain.{Allows, Refuses}
-use Rattle.duct_run.specs.Closes.{Closes}
 use Rattle.duct_start.specs.Left.{Leaves, pool_view}
 use Rattle.duct_run.specs.RunContract.{PlanTail, ActionsFail}
-use Rattle.duct_run.specs.ResourceEnds.{ends_of_resources}
-use Rattle.duct_run.specs.ResourcesView.{AreNew, resources_view}
+use Rattle.duct_run.specs.ResourcesView.{ends_of_resources, AreNew, resources_view}
 use Rattle.duct_run.specs.declared.resources.Resources.{Resources}
+use Rattle.duct_system.specs.EntryView.{Close}
+
+-- the ends of these numbers were closed, one after the other, and no other request was made
+pub record Closes (numbers : List ℕ) (old new : JournalView) : Type 0 where
+  pub entries_are : new.entries ≡ old.entries ++ map Close numbers
+  pub counted : new.added ≡ old.added + length numbers
+  pub next_grows : old.next ≤ new.next
+  pub room_is : old.room ≤ new.room + length numbers
 
 -- the run failed with this error and these resources; the pool was swept while it ran, each open
 -- end was closed, and each child was given to the pool

@@ -1,14 +1,8 @@
 pub mod ActionView
-pub mod Changes
 pub mod GivesUp
-pub mod ResourceEnds
 pub mod ResourcesView
 pub mod Made
-pub mod NameRefused
-pub mod OutputRead
-pub mod Places
 pub mod Requested
-pub mod ScopeView
 pub mod Settings
 pub mod StreamsView
 pub mod Actions
@@ -16,6 +10,5 @@ pub mod ActionList
 pub mod Flat
 pub mod RunInvariant
 pub mod Commands
-pub mod Closes
 pub mod RunContract
 pub mod Kinds

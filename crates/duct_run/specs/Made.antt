@@ -1,17 +1,21 @@
--- The spec that is made for a command in its scope.
-use Rattle.std.specs.Prelude.{ℕ, List, ◌≡◌, string_bytes, Some, None}
+-- The spec that is made for a command in its scope, or the canonical path that was refused.
+use Rattle.std.specs.Prelude.{ℕ, List, ◌≡◌, string_bytes, Some, None, true, Err}
 use Rattle.std.specs.declared.option.Option.{Option}
 use Rattle.std.specs.declared.string.String.{String}
-use Rattle.duct_system.specs.Journal.{JournalView}
+use Rattle.duct_system.specs.Journal.{JournalView, IsRefused}
 use Rattle.duct_system.specs.SpecView.{SpecView, Vars, AreOrdered, variable_in, port_of}
 use Rattle.duct_system.specs.declared.spec.Port.{Port}
 use Rattle.duct_system.specs.declared.spec.Stream.{Stream}
 use Rattle.duct_run.specs.Actions.{Scope, PerStream, port_in}
 use Rattle.duct_start.specs.Asked.{with_program}
-use Rattle.duct_start.specs.Chain.{Allows}
-use Rattle.duct_run.specs.Commands.{NameSucceeds}
+use Rattle.duct_start.specs.Chain.{Allows, resolved_port}
+use Rattle.duct_run.specs.Commands.{NameSucceeds, asks_canonical_path}
 use Rattle.duct_start.specs.Surroundings.{VariableChange, variable}
 use Rattle.duct_start.specs.Plan.{program_of}
+use Rattle.duct_system.specs.EntryView.{Canonicalize}
+use Rattle.duct_system.specs.declared.error.Error.{Error}
+use Rattle.duct_system.specs.declared.error.Error.TheVariants.{System}
+use Rattle.duct_system.specs.declared.system.Fault.{Fault}
 
 -- the program of some words: its canonical path where that was asked for, else the first word
 abbrev pub program_text : {Z : Type 0} → Option (String Z) → List (List ℕ) → List ℕ
@@ -36,3 +40,19 @@ pub record IsPrepared {E H : Type 0} (allows : Allows H) (number_of : E → ℕ)
   pub program : List ℕ
   pub names : NameSucceeds {E = E} {H = H} allows number_of scope words now next program
   pub made : IsMade pairs program scope.folder scope.changes words ports spec
+
+-- the spec with a given end for each stream that names a place
+abbrev pub with_places_found : SpecView → SpecView
+with_places_found spec = record spec {
+  input = resolved_port spec.input;
+  output = resolved_port spec.output;
+  error = resolved_port spec.error;
+}
+
+-- the command needs the canonical path of its program, and the system refused it with this error
+pub record NameRefused {E H : Type 0} (scope : Scope E H) (words : List (List ℕ))
+    (now next : JournalView) (error : Error) : Type 0 where
+  pub fault : Fault
+  pub error_is : error ≡ System fault
+  pub asked : asks_canonical_path scope words ≡ true
+  pub refused : IsRefused (Canonicalize (program_of words) (Err fault)) 0 fault now next

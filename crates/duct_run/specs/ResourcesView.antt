@@ -1,6 +1,6 @@
 -- The resources of a run, as contracts see them.
 use Rattle.std.specs.Prelude.{ℕ, ◌+◌, ◌≤◌, ◌≡◌, ◌++◌, List, All, map, reverse, vec_len, vec_capacity, [], None, ◌∷◌, Some}
-use Rattle.std.specs.Option.{option_to_list}
+use Rattle.std.specs.Option.{option_map, option_to_list}
 use Rattle.std.specs.declared.option.Option.{Option}
 use Rattle.duct_system.specs.Child.{ChildView, IsUnasked}
 use Rattle.duct_system.specs.Job.{JobView, unpolled_job}
@@ -8,7 +8,6 @@ use Rattle.duct_system.specs.declared.system.Side.{Side}
 use Rattle.duct_status.specs.PerSide.{at_side}
 use Rattle.duct_status.specs.declared.per_side.PerSide.{PerSide}
 use Rattle.duct_start.specs.Plan.{no_pipes}
-use Rattle.duct_run.specs.OutputRead.{pipe_view}
 use Rattle.duct_run.specs.declared.resources.Resources.{Resources}
 
 -- the stack, its top first; the ends of the two capture pipes, the read end first; and the children
@@ -19,6 +18,10 @@ pub record ResourcesView : Type 0 where
   pub children : List ℕ
   pub feeds : List ℕ
   pub drains : List ℕ
+
+-- the numbers of the two ends of a capture pipe, if it is open
+abbrev pub pipe_view : {E : Type 0} → (E → ℕ) → Option (E × E) → Option (ℕ × ℕ)
+pipe_view end pipe = option_map (λ ends. (end ends.0, end ends.1)) pipe
 
 -- the ends of a capture pipe, if it is open
 abbrev pub pipe_ends : {A : Type 0} → Option (A × A) → List A
@@ -100,3 +103,9 @@ pub record AreNew {E C F D V W : Type 0} (child : C → ChildView) (feed : F →
 -- the capture workers are the same
 abbrev pub HasSameWorkers : {E C F D : Type 0} → Resources E C F D → Resources E C F D → Type 0
 HasSameWorkers old new = new.drains ≡ old.drains
+
+-- the numbers of all ends, in the order in which they are closed: the stack from its bottom, then
+-- the capture pipes of stdout and stderr
+abbrev pub ends_of_resources : {E C F D : Type 0} → (E → ℕ) → Resources E C F D → List ℕ
+ends_of_resources number_of held =
+    map number_of held.stack.items ++ ends_of_pipes (pipes_view number_of held.pipes)

@@ -1,8 +1,8 @@
 -- What a whole run guarantees, from the request for the environment to the capture pipes.
 use Rattle.std.specs.Prelude.{◌≡◌, Bool, false, is_some, ℕ, List, [], IsSome, None, Some}
 use Rattle.std.specs.declared.option.Option.{Option}
-use Rattle.duct_system.specs.EntryView.{EntryView}
-use Rattle.duct_system.specs.Journal.{JournalView}
+use Rattle.duct_system.specs.EntryView.{EntryView, Close, Reader}
+use Rattle.duct_system.specs.Journal.{JournalView, GivesEnds}
 use Rattle.duct_system.specs.SpecView.{Vars}
 use Rattle.duct_system.specs.declared.error.Error.{Error}
 use Rattle.duct_system.specs.declared.system.Side.TheVariants as side
@@ -102,3 +102,15 @@ abbrev pub IsReaderOf : {R : Type 0} → (ℕ → R → Type 0) → StartKind �
 IsReaderOf may Draining added reader = reader ≡ None
 IsReaderOf may Reading added None = ⊥
 IsReaderOf may Reading added (Some reader) = MadeReader may added reader
+
+-- the write end of this pipe was closed, and then this reader was made of its read end
+pub record IsRead {R : Type 0} (may : ℕ → R → Type 0) (pipe : Option (ℕ × ℕ))
+    (now next : JournalView)
+    (reader : R) : Type 0 where
+  pub read_end : ℕ
+  pub write_end : ℕ
+  pub between : JournalView
+  pub pipe_is : pipe ≡ Some (read_end, write_end)
+  pub closed : GivesEnds (Close write_end) 1 now between
+  pub made : GivesEnds (Reader read_end) 1 between next
+  pub told : may read_end reader

@@ -5,7 +5,7 @@ ghost use Rattle.std.specs.Option.{option_copied, option_map};
 ghost use Rattle.duct_system.specs.SpecView.{pair_text};
 ghost use Rattle.duct_start.specs.Asked.{with_program};
 ghost use Rattle.duct_run.specs.ActionView.{ports_view};
-ghost use Rattle.duct_run.specs.Changes.{changes_of};
+ghost use Rattle.duct_run.specs.Settings.{changes_of};
 ghost use Rattle.duct_run.specs.Made.{IsMade, program_text};
 
 use crate::action::Ports;

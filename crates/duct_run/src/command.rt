@@ -12,11 +12,9 @@ ghost use Rattle.duct_run.specs.Commands.{NameSucceeds, ActionFailsWith, stack_w
 ghost use Rattle.duct_run.specs.ResourcesView.{ResourcesView, open_ends, HasRoom, HasSameWorkers, stack_view};
 ghost use Rattle.duct_run.specs.ActionList.{AreOutwards, scope_in};
 ghost use Rattle.duct_start.specs.Plan.{program_of};
-ghost use Rattle.duct_run.specs.ActionView.{ports_view, spawn_in};
-ghost use Rattle.duct_run.specs.Made.{IsPrepared, program_text};
-ghost use Rattle.duct_run.specs.NameRefused.{NameRefused};
+ghost use Rattle.duct_run.specs.ActionView.{ports_view, spawn_in, scopes_view};
+ghost use Rattle.duct_run.specs.Made.{IsPrepared, program_text, NameRefused};
 ghost use Rattle.duct_run.specs.Requested.{CommandSucceeds, CommandFails, HoldsUnasked, resources_of};
-ghost use Rattle.duct_run.specs.ScopeView.{scopes_view};
 ghost use Rattle.duct_run.specs.Settings.{hooks_of};
 ghost use Rattle.duct_run.specs.StreamsView.{streams_view};
 

@@ -2,10 +2,9 @@
 ghost use Rattle.std.specs.Prelude.{◌≤◌, length, map};
 ghost use Rattle.std.specs.Option.{option_map};
 ghost use Rattle.duct_base.specs.Pool.{IsGiven};
-ghost use Rattle.duct_run.specs.Closes.{Closes};
-ghost use Rattle.duct_run.specs.ResourcesView.{pipe_ends};
+ghost use Rattle.duct_run.specs.GivesUp.{Closes};
+ghost use Rattle.duct_run.specs.ResourcesView.{pipe_ends, ends_of_resources};
 ghost use Rattle.duct_run.specs.Requested.{PoolGets};
-ghost use Rattle.duct_run.specs.ResourceEnds.{ends_of_resources};
 
 use crate::resources::Resources;
 use duct_base::pool::{Place, Pool, pool_take};

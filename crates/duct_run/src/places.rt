@@ -1,7 +1,7 @@
 //! The places that a hook names in a spec: indexes into the hook's ends.
 ghost use Rattle.std.specs.Prelude.{◌≡◌};
 ghost use Rattle.duct_start.specs.Chain.{missing_place, missing_at, with_resolved_port};
-ghost use Rattle.duct_run.specs.Places.{with_places_found};
+ghost use Rattle.duct_run.specs.Made.{with_places_found};
 
 use duct_base::spec::{CommandSpec, Port, Stream, give};
 

@@ -5,10 +5,9 @@ ghost use Rattle.duct_run.specs.Actions.{pop_count};
 ghost use Rattle.duct_run.specs.ResourcesView.{open_ends, HasRoom, HasSameWorkers};
 ghost use Rattle.duct_run.specs.ActionList.{AreOutwards, IsWithin, resolved};
 ghost use Rattle.duct_run.specs.RunInvariant.{FindsItsEnds, SomeReadyForActions};
-ghost use Rattle.duct_run.specs.ActionView.{action_view, actions_view, resolved_in};
+ghost use Rattle.duct_run.specs.ActionView.{action_view, actions_view, resolved_in, all_scopes, scopes_view};
 ghost use Rattle.duct_run.specs.Requested.{ActionsPerformed, ActionsStopped, HoldsUnasked, Performed, resources_of};
 ghost use Rattle.duct_start.specs.Left.{Leaves, pool_view};
-ghost use Rattle.duct_run.specs.ScopeView.{all_scopes, scopes_view};
 
 use crate::action::Action;
 use crate::command::command;

@@ -3,7 +3,7 @@ ghost use Rattle.std.specs.Prelude.{◌≤◌, length, IfOk, OnOk, IsOkUnless};
 ghost use Rattle.duct_run.specs.Actions as plan;
 ghost use Rattle.duct_run.specs.ActionList.{AreOutwards, scope_in};
 ghost use Rattle.duct_run.specs.Flat.{root_scope, scope_inside};
-ghost use Rattle.duct_run.specs.ScopeView.{scopes_view, setting_view};
+ghost use Rattle.duct_run.specs.ActionView.{scopes_view, setting_view};
 ghost use Rattle.duct_run.specs.Settings.{Sets};
 ghost use Rattle.duct_start.specs.Step.{step_of_setting};
 

@@ -1,15 +1,13 @@
 //! A start: it runs its actions, and where one of them fails it gives up its resources.
 ghost use Rattle.std.specs.Prelude.{◌≡◌, ◌≤◌, All, length, is_some, None, OnOk, IfOk, IfErr, IsSome, []};
 ghost use Rattle.duct_system.specs.Trace.{segment};
-ghost use Rattle.duct_run.specs.ResourcesView.{empty_resources, HasSameWorkers};
+ghost use Rattle.duct_run.specs.ResourcesView.{empty_resources, pipe_view, HasSameWorkers};
 ghost use Rattle.duct_run.specs.ActionList.{AreOutwards, IsWithin};
-ghost use Rattle.duct_run.specs.RunContract.{HaveWorkers, IsReaderOf, LeadToSomePlan, OpenOutputCapture, no_tail, tail_for};
+ghost use Rattle.duct_run.specs.RunContract.{HaveWorkers, IsReaderOf, LeadToSomePlan, OpenOutputCapture, no_tail, tail_for, IsRead};
 ghost use Rattle.duct_run.specs.declared.start.StartKind.TheVariants.{Reading};
-ghost use Rattle.duct_run.specs.ActionView.{actions_view, resolved_in};
-ghost use Rattle.duct_run.specs.OutputRead.{IsRead, pipe_view};
+ghost use Rattle.duct_run.specs.ActionView.{actions_view, resolved_in, scopes_view};
 ghost use Rattle.duct_run.specs.Requested.{RunGivesUp, HoldsUnasked, RunFails, RunSucceeds, resources_of};
 ghost use Rattle.duct_start.specs.Left.{Leaves, pool_view};
-ghost use Rattle.duct_run.specs.ScopeView.{scopes_view};
 
 use crate::action::Action;
 use crate::ending::give_up;

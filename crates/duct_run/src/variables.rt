@@ -2,7 +2,7 @@
 ghost use Rattle.std.specs.Prelude.{ℕ, ◌≡◌, ◌∷◌, [], List, map, IfOk, IsOkUnless, OnOk};
 ghost use Rattle.duct_system.specs.SpecView.{AreOrdered, Vars, pair_text, said_of, var_view, variable_in};
 ghost use Rattle.duct_start.specs.Surroundings.{Replaces, variable};
-ghost use Rattle.duct_run.specs.Changes.{AddsChange, change_of, changes_of};
+ghost use Rattle.duct_run.specs.Settings.{AddsChange, change_of, changes_of};
 
 use duct_base::error::Error;
 use duct_base::names::EnvNameString;

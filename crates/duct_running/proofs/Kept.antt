@@ -10,8 +10,7 @@ use Rattle.duct_system.specs.declared.system.Said.{Said}
 use Rattle.duct_system.specs.declared.system.Said.TheVariants as said
 use Rattle.duct_status.specs.ShapeView.{shape_view}
 use Rattle.duct_start.specs.Running.{RunningView}
-use Rattle.duct_running.specs.Polled.{AllAsked, WhileRuns, IsPolled, AllPolled, IsThereAndPolled}
-use Rattle.duct_running.specs.Stays.{Stays}
+use Rattle.duct_running.specs.Polled.{AllAsked, WhileRuns, IsPolled, AllPolled, IsThereAndPolled, Stays}
 
 module _ {X : Type 0} (part : ChildView → X)
     (alike : (answer : Answer) (child : ChildView) → part (child_after answer child) ≡ part child)

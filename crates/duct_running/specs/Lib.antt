@@ -4,7 +4,5 @@ pub mod RunningInvariant
 pub mod NumbersView
 pub mod Ordered
 pub mod Polled
-pub mod PolledOnce
-pub mod Stays
 pub mod Stored
 pub mod Allowed

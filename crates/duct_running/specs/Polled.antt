@@ -25,6 +25,8 @@ use Rattle.duct_system.specs.declared.system.Side.TheVariants as side
 use Rattle.duct_start.specs.Running.{RunningView}
 use Rattle.duct_system.specs.SystemViews.{SystemViews}
 use Rattle.duct_running.specs.Stored.{Bytes, stored_in}
+use Rattle.duct_system.specs.declared.system.Side.TheVariants.{Out, Err}
+use Rattle.duct_running.specs.NumbersView.{numbers_in}
 
 -- what a poll returns: nothing yet, an output, or an error
 abbrev pub Polled : Type 0
@@ -168,3 +170,29 @@ module _ {S E C F D : Type 0} (views : SystemViews S E C F D (Unit {0}) Bytes) w
   ReturnsOutcome running polled =
       IsOutcome (shape_view running.shape)
       (stored_in views.child views.feed views.drain running) polled
+
+-- the shape is as before; each child that had not ended and each input worker that had not finished
+-- was polled once, each capture worker once if the outcome waited for it, and no other. Whether
+-- stdout's is polled depends on what the children and input workers store then; whether stderr's
+-- is, on stdout's too
+pub record PolledOnce {S E C F D : Type 0} (views : SystemViews S E C F D (Unit {0}) Bytes)
+    (before after : RunningView C F D) : Type 0 where
+  pub shape : shape_view after.shape ≡ shape_view before.shape
+  pub children : ChildrenAsked views before after
+  pub feeds : FeedsPolled views before after
+  pub output : DrainPolled views Out
+      (record after { output = before.output; error = before.error }) before.output after.output
+  pub error : DrainPolled views Err (record after { error = before.error }) before.error after.error
+
+-- the shape, the numbers, and the orders that the children were given are as before
+pub record Stays {C F D V W : Type 0} (child : C → ChildView) (feed : F → JobView V)
+    (drain : D → JobView W) (before after : RunningView C F D) : Type 0 where
+  pub shape_is : shape_view after.shape ≡ shape_view before.shape
+  pub numbers_are : numbers_in child feed drain after ≡ numbers_in child feed drain before
+  pub orders_are : map (λ c. c.orders) (map child after.children)
+      ≡ map (λ c. c.orders) (map child before.children)
+
+module _ {S E C F D V W : Type 0} (views : SystemViews S E C F D V W) where
+  -- the shape, the numbers, and the orders that the children were given are as before
+  abbrev pub StaysSame : RunningView C F D → RunningView C F D → Type 0
+  StaysSame before after = Stays views.child views.feed views.drain before after

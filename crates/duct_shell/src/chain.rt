@@ -1,7 +1,6 @@
 //! Builders of what is an expression or an error, so that one `?` ends a chain.
 ghost use Rattle.std.specs.declared.result.Result.{Result};
-ghost use Rattle.duct.specs.LastValues.{last_values};
-ghost use Rattle.duct.specs.Pairs.{pairs_of};
+ghost use Rattle.duct.specs.LastValues.{last_values, pairs_of};
 ghost use Rattle.duct_system.specs.declared.error.Error.{Error as ErrorView};
 ghost use Rattle.duct_start.specs.TreeView.{TreeView, stdin_bytes, stdin_path, stdin_file, stdin_null, stdout_path, stdout_file, stdout_null, stdout_capture, stdout_to_stderr, stderr_path, stderr_file, stderr_null, stderr_capture, stderr_to_stdout, stdout_stderr_swap, dir, env, env_remove, full_env, unchecked, before_spawn};
 ghost use Rattle.duct_shell.specs.Wraps.{Joins, Wraps, tree_of_result};

@@ -5,7 +5,6 @@ pub mod Follows
 pub mod Surroundings
 pub mod Left
 pub mod Lookup
-pub mod Path
 pub mod Plan
 pub mod Row
 pub mod Running

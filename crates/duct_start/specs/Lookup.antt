@@ -5,8 +5,31 @@ use Rattle.std.specs.declared.option.Option.{Option}
 use Rattle.duct_system.specs.declared.spec.Stream.{Stream}
 use Rattle.duct_system.specs.declared.spec.Stream.TheVariants.{In, Out, Err}
 use Rattle.duct_start.specs.Surroundings.{Surroundings, Target, Parents, VariableChange}
-use Rattle.duct_start.specs.Path.{Path, segment_place, step_of}
-use Rattle.duct_start.specs.Step.{Turn, Decides, DefersTo}
+use Rattle.duct_start.specs.Step.{Turn, Decides, DefersTo, NodeStep, left_step, right_step, step}
+use Rattle.duct_start.specs.TreeView.{ModifierView}
+
+-- one segment of a path, which is a node around a command: a pipe, entered from its left or its
+-- right side, or a modifier; each with its place in the plan
+pub data PathSegment (E H : Type 0) : Type 0 where
+  left_of : ℕ → PathSegment E H
+  right_of : ℕ → PathSegment E H
+  within : ℕ → ModifierView E H → PathSegment E H
+
+-- the nodes around a command, the nearest first
+abbrev pub Path : Type 0 → Type 0 → Type 0
+Path E H = List (PathSegment E H)
+
+-- the place of a node
+abbrev pub segment_place : {E H : Type 0} → PathSegment E H → ℕ
+segment_place (left_of place) = place
+segment_place (right_of place) = place
+segment_place (within place modifier) = place
+
+-- what a node does
+abbrev pub step_of : {E H : Type 0} → PathSegment E H → NodeStep E H
+step_of (left_of place) = left_step
+step_of (right_of place) = right_step
+step_of (within place modifier) = step modifier
 
 -- where a stream goes, by the turn of a node and by where the streams go further out
 abbrev pub resolved_turn : {E : Type 0} → Turn E → (Stream → Target E) → Target E

@@ -6,8 +6,7 @@ use Rattle.duct_system.specs.declared.system.Side.{Side}
 use Rattle.duct_status.specs.PerSide.{at_side, with_side}
 use Rattle.duct_status.specs.declared.per_side.PerSide.{PerSide}
 use Rattle.duct_start.specs.Surroundings.{Surroundings}
-use Rattle.duct_start.specs.Lookup.{surroundings_on}
-use Rattle.duct_start.specs.Path.{Path, left_of, right_of, within}
+use Rattle.duct_start.specs.Lookup.{surroundings_on, Path, left_of, right_of, within}
 use Rattle.duct_start.specs.Step.{Item, AskEnvironment, AskPipe, AskCanonicalize, AskSpawn, AskDrain, AskReader, Opening, OpensNothing, Opens, Captures, step}
 use Rattle.duct_start.specs.TreeView.{TreeView, command, pipe, around, stdout_capture}
 

@@ -3,7 +3,7 @@
 use Rattle.std.proofs.Common.{◌≡◌, true, refl, sym, subst}
 use Rattle.duct_status.specs.declared.status.Reply.{Reply}
 use Rattle.duct_status.specs.declared.status.Reply.TheVariants as reply
-use Rattle.duct_status.specs.Choice.{chosen}
+use Rattle.duct_status.specs.Winner.{chosen}
 use Rattle.duct_status.specs.Outcome.{AnswersFor, AnswersOutcome, Concludes, OutcomeView, waits, faults, finished, outcome}
 use Rattle.duct_status.specs.Endings.{Endings, endings_of}
 use Rattle.duct_status.specs.Fits.{Fits, is_finished, output_of, error_of}

@@ -4,7 +4,7 @@ use Rattle.std.specs.Fmt.{◌++?◌}
 use Rattle.std.proofs.Common.{subst, sym, ◌∙◌, append_assoc}
 use Rattle.duct_system.specs.declared.system.ExitStatus.{ExitStatus}
 use Rattle.duct_status.specs.Message.{status_text, IsMessage, printed_message}
-use Rattle.duct_status.specs.Quoted.{quoted_list}
+use Rattle.duct_status.specs.Form.{quoted_list}
 use Rattle.duct_status.proofs.Quotes.{debug_list-printable}
 
 joined : (a b c d : List ℕ) → a ++ (b ++ (c ++ d)) ≡ ((a ++ b) ++ c) ++ d

@@ -3,8 +3,7 @@
 use Rattle.std.proofs.Common.{◌≡◌, ℕ, ◌<◌, ◌≤◌, ◌⊎◌, min, Bool, true, false, not, ◌&&◌, ◌||◌, cond, refl, inl, inr, arith, ap, subst, sym}
 use Rattle.duct_system.specs.Status.{is_success}
 use Rattle.duct_status.specs.Endings.{Endings, ending, pipe, unchecked, Way, is_checked}
-use Rattle.duct_status.specs.Winner.{level, LeftBeats, RightBeats, Beats, IsWinner}
-use Rattle.duct_status.specs.Choice.{is_failure, takes_right, chosen}
+use Rattle.duct_status.specs.Winner.{level, LeftBeats, RightBeats, Beats, IsWinner, is_failure, takes_right, chosen}
 use Rattle.duct_status.specs.Laws.{IsStrictTotalOrder, ExactlyOneWins, FailsWhereSomeFails, UncheckedKeeps}
 
 -- the level of the command that beats is never the lower one

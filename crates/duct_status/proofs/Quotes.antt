@@ -6,7 +6,7 @@ use Rattle.std.specs.Char.{is_ascii}
 use Rattle.std.specs.Fmt.{debug_str, debug_escape, debug_items, debug_list, comma_space}
 use Rattle.std.proofs.Common.{◌≡◌, ◌≤◌, refl, sym, subst, arith, append_assoc, rules, inl, inr}
 use Rattle.std.proofs.lemmas.Bool.{and_parts, and_from, leb-true, lt-ltb, le-ltb, ne_eqb, cases_eq}
-use Rattle.duct_status.specs.Quoted.{is_printable, escaped, quoted, listed, quoted_list}
+use Rattle.duct_status.specs.Form.{is_printable, escaped, quoted, listed, quoted_list}
 
 printable_bounds : (c : ℕ) → (nat_le 32 c && nat_le c 126) ≡ true → (32 ≤ c) × (c ≤ 126)
 printable_bounds c is = let both = and_parts (nat_le 32 c) (nat_le c 126) is in (leb-true 32 c both.0, leb-true c 126 both.1)

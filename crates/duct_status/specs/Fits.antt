@@ -12,7 +12,7 @@ use Rattle.duct_system.specs.declared.system.Said.{Said}
 use Rattle.duct_status.specs.declared.status.Reply.{Reply}
 use Rattle.duct_status.specs.declared.status.Reply.TheVariants as reply
 use Rattle.duct_status.specs.declared.status.Word.{Word}
-use Rattle.duct_status.specs.Choice.{chosen, is_checked_failure}
+use Rattle.duct_status.specs.Winner.{chosen, is_checked_failure}
 use Rattle.duct_status.specs.Endings.{status_at, texts_at, endings_of}
 use Rattle.duct_status.specs.Message.{IsMessage}
 use Rattle.duct_status.specs.EventView.{bytes_said}

@@ -1,8 +1,7 @@
 -- The laws of precedence, for any tree of commands that have ended.
 use Rattle.std.specs.Prelude.{◌≡◌, ◌⊎◌, ◌↔◌, true}
-use Rattle.duct_status.specs.Choice.{is_failure}
+use Rattle.duct_status.specs.Winner.{is_failure, Beats, IsWinner}
 use Rattle.duct_status.specs.Endings.{Endings, Way, status_at, unchecked}
-use Rattle.duct_status.specs.Winner.{Beats, IsWinner}
 
 -- `Beats` is a strict total order on the commands
 pub record IsStrictTotalOrder (t : Endings) : Type 0 where

@@ -1,5 +1,4 @@
 pub mod Bytes
-pub mod Choice
 pub mod CoreView
 pub mod Endings
 pub mod EventView
@@ -11,7 +10,6 @@ pub mod LendsSide
 pub mod Message
 pub mod Outcome
 pub mod PerSide
-pub mod Quoted
 pub mod ReplyView
 pub mod ShapeView
 pub mod Standing

@@ -4,7 +4,7 @@ use Rattle.std.specs.Fmt.{◌++?◌, debug_list, debug_str, signed_decimal}
 use Rattle.std.specs.List.{list_all}
 use Rattle.duct_system.specs.declared.system.ExitStatus.{ExitStatus}
 use Rattle.duct_system.specs.declared.system.ExitStatus.TheVariants.{Code, Signal}
-use Rattle.duct_status.specs.Quoted.{is_printable, quoted_list}
+use Rattle.duct_status.specs.Form.{is_printable, quoted_list}
 
 -- the code, or the signal as in `<signal 6>`
 abbrev pub status_text : ExitStatus → List ℕ

@@ -12,12 +12,11 @@ use Rattle.duct_status.specs.declared.status.Word.TheVariants as word
 use Rattle.duct_status.specs.ShapeView.{ShapeView, command, pipe, input, unchecked, command_count, input_count}
 use Rattle.duct_status.specs.Latest.{Latest, latest_told, is_known}
 use Rattle.duct_status.specs.declared.status.Drains.{Drains}
-use Rattle.duct_status.specs.Choice.{is_checked_failure}
+use Rattle.duct_status.specs.Winner.{is_checked_failure, IsWinner}
 use Rattle.duct_status.specs.Endings.{Endings, Way, status_at, texts_at, endings_of}
 use Rattle.duct_status.specs.Message.{IsMessage}
 use Rattle.duct_status.specs.EventView.{EventView, from_command, from_input, from_drain, conclude}
 use Rattle.duct_status.specs.ReplyView.{ReplyView, noted, unknown, pending, faulted, answered, failed, no_memory}
-use Rattle.duct_status.specs.Winner.{IsWinner}
 
 -- the report of a command in the form of a worker's, an exit status as Done; without a report it
 -- runs

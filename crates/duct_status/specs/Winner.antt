@@ -1,8 +1,8 @@
 -- The winning command: the one that beats every other one.
-use Rattle.std.specs.Prelude.{◌≡◌, ℕ, ◌<◌, ◌⊎◌, min, if◌then◌else◌}
+use Rattle.std.specs.Prelude.{◌≡◌, ℕ, ◌<◌, ◌⊎◌, min, if◌then◌else◌, Bool, not, ◌&&◌, ◌||◌}
 use Rattle.std.proofs.Common.{inl, inr}
 use Rattle.duct_system.specs.Status.{is_success}
-use Rattle.duct_status.specs.Endings.{Endings, ending, pipe, unchecked, Way}
+use Rattle.duct_status.specs.Endings.{Endings, ending, pipe, unchecked, Way, status_at, is_checked}
 
 -- 0 for a success, 1 for a failure that an unchecked of this tree wraps, 2 for any other failure
 abbrev pub level : (t : Endings) → Way t → ℕ
@@ -34,3 +34,23 @@ Beats (unchecked t) one other = Beats t one other
 -- the command beats every other one
 abbrev pub IsWinner : (t : Endings) → Way t → Type 0
 IsWinner t winner = (other : Way t) → (winner ≡ other) ⊎ Beats t winner other
+
+-- whether this command failed
+abbrev pub is_failure : (t : Endings) → Way t → Bool
+is_failure t way = not (is_success (status_at t way))
+
+-- whether this command failed and no unchecked wraps it
+abbrev pub is_checked_failure : (t : Endings) → Way t → Bool
+is_checked_failure t way = is_failure t way && is_checked t way
+
+-- whether the right side of a pipe is chosen: it is a checked failure, or it is a failure and the
+-- left side is no checked failure
+abbrev pub takes_right : (l r : Endings) → Way l → Way r → Bool
+takes_right l r left right =
+    is_checked_failure r right || (not (is_checked_failure l left) && is_failure r right)
+
+-- the chosen command: at each pipe, one of the two that were chosen on its sides
+abbrev pub chosen : (t : Endings) → Way t
+chosen (ending texts status) = tt
+chosen (pipe l r) = if takes_right l r (chosen l) (chosen r) then inr (chosen r) else inl (chosen l)
+chosen (unchecked t) = chosen t

@@ -4,7 +4,7 @@ use Rattle.std.specs.Cmp.Lexicographic.{pointwise}
 use Rattle.std.specs.Cmp.Derive.Mapped.{pointwise-map}
 use Rattle.std.proofs.lemmas.Bool.{false≢true}
 use Rattle.std.proofs.lemmas.Slice.Eq.{slice_eq-Decides, bytes_eq-Decides}
-use Rattle.duct_system.specs.Same.{pair_seen}
+use Rattle.duct_system.specs.SpecView.{pair_seen}
 
 -- whether two texts are equal
 abbrev pub same_text : List ℕ → List ℕ → Bool

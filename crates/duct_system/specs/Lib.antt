@@ -6,7 +6,6 @@ pub mod Kinds
 pub mod Ledger
 pub mod Name
 pub mod Origin
-pub mod Same
 pub mod SpecView
 pub mod Started
 pub mod Status

@@ -93,3 +93,13 @@ gives Err spec = record spec { error = Given }
 abbrev pub GivesNothing : SpecView → SpecView → Type 0
 GivesNothing before after =
     (stream : Stream) → port_of stream after ≡ Given → port_of stream before ≡ Given
+
+-- a borrowed spelling with a borrowed value
+abbrev pub pair_seen : Bor (List ℕ) × Bor (List ℕ) → List ℕ × List ℕ
+pair_seen pair = (pair.0.now, pair.1.now)
+
+-- the streams of two specs have the same ports
+pub record HaveSamePorts (one other : SpecView) : Type 0 where
+  pub input_is : one.input ≡ other.input
+  pub output_is : one.output ≡ other.output
+  pub error_is : one.error ≡ other.error

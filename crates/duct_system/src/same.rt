@@ -1,7 +1,7 @@
 //! Whether two specs, or the streams of two children, are equal.
 ghost use Rattle.std.specs.Prelude.{◌≡◌, ◌↔◌, map, string_bytes, IfOk, IsTrue};
 ghost use Rattle.std.specs.Option.{option_copied};
-ghost use Rattle.duct_system.specs.Same.{HaveSamePorts, pair_seen};
+ghost use Rattle.duct_system.specs.SpecView.{HaveSamePorts, pair_seen};
 
 use crate::spec::{CommandSpec, Port, Stream};
 use crate::system::Stdio;

@@ -6,8 +6,7 @@ use Rattle.duct_start.specs.Running.{RunningView}
 use Rattle.duct_system.specs.SystemViews.{SystemViews}
 use Rattle.duct_running.specs.Allowed.{StoresAllowed}
 use Rattle.duct_running.specs.Answered.{ReturnsConclusion}
-use Rattle.duct_running.specs.Polled.{Polled, ReturnsOutcome}
-use Rattle.duct_running.specs.Stays.{Stays, StaysSame}
+use Rattle.duct_running.specs.Polled.{Polled, ReturnsOutcome, Stays, StaysSame}
 use Rattle.duct_running.specs.Stored.{Bytes}
 use Rattle.duct_handle.proofs.Finishing.{was_concluded}
 use Rattle.duct_tasks.specs.Turns.{RunsAlike}

@@ -35,11 +35,10 @@ use Rattle.duct_running.specs.Answered.{IsConcludedPoll}
 use Rattle.duct_running.specs.NumbersView.{NumbersView, numbers_of}
 use Rattle.duct_running.specs.Stored.{Bytes}
 use Rattle.duct_running.specs.Ordered.{IsOrdered}
-use Rattle.duct_running.specs.Polled.{ReturnsOutcome}
-use Rattle.duct_running.specs.PolledOnce.{PolledOnce}
+use Rattle.duct_running.specs.Polled.{ReturnsOutcome, PolledOnce}
 use Rattle.duct_handle.specs.Started.{AreNumbers}
 use Rattle.duct_handle.specs.Waited.{at_end}
-use Rattle.duct_handle.specs.Trimmed.{trimmed}
+use Rattle.duct_handle.specs.ReadsText.{trimmed}
 use Rattle.duct.specs.Launched.{MadeBy, Returns, Runs, StartKind, added_between, draining, drains_error, drains_output, Fails, Launched, RunFailed}
 use Rattle.duct.specs.TreeView.{tree_view}
 use Rattle.duct.specs.declared.expression.Expression.{Expression}

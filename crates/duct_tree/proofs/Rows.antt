@@ -7,8 +7,7 @@ use Rattle.duct_run.specs.Flat.{depth_inside, sources_inside, actions_around}
 use Rattle.duct_run.specs.ActionList.{ActionListView, ScopeEntry, list_of_subtree, next_index, scope_index, with_scope_entry}
 use Rattle.duct_start.specs.Row.{RowOpening, Row, SettingView, opens_nothing, opens_input, opens_read, opens_create, opens_capture, row}
 use Rattle.duct_start.specs.TreeView.{ModifierView, TreeView, around}
-use Rattle.duct_tree.specs.NodeContextView.{sources_view}
-use Rattle.duct_tree.specs.ActionListView.{closings, openings, with_ending, with_scope, with_tree}
+use Rattle.duct_tree.specs.ActionListView.{sources_view, closings, openings, with_ending, with_scope, with_tree}
 use Rattle.duct_tree.specs.declared.compile.context.NodeContext.{NodeContext}
 
 module _ {E : Type 0} where

@@ -2,15 +2,32 @@
 use Rattle.std.specs.Prelude.{ℕ, ◌+◌, List, [], ◌∷◌, ◌++◌, length, Some, None}
 use Rattle.std.specs.declared.option.Option.{Option}
 use Rattle.duct_run.specs.Actions as action
-use Rattle.duct_run.specs.Actions.{ActionOf}
+use Rattle.duct_run.specs.Actions.{ActionOf, PerStream}
 use Rattle.duct_run.specs.ActionList.{ActionListView, ScopeEntry, list_of_subtree}
 use Rattle.duct_start.specs.Row.{RowOpening, SettingView, opens_nothing, opens_input, opens_read, opens_create, opens_capture, row}
 use Rattle.duct_start.specs.TreeView.{ModifierView, TreeView}
-use Rattle.duct_run.specs.ActionView.{actions_view}
-use Rattle.duct_run.specs.ScopeView.{scopes_view}
-use Rattle.duct_tree.specs.NodeContextView.{sources_view}
+use Rattle.duct_run.specs.ActionView.{actions_view, scopes_view}
 use Rattle.duct_tree.specs.declared.compile.context.NodeContext.{NodeContext}
 use Rattle.duct_tree.specs.declared.compile.action_list.ActionList.{ActionList}
+use Rattle.duct_run.specs.Flat as flat
+use Rattle.duct_tree.specs.declared.compile.context.StreamSource.{StreamSource}
+use Rattle.duct_tree.specs.declared.compile.context.StreamSource.TheVariants.{Parents, Nothing, Slot, Captured, Lent}
+
+-- where a command gets the end of a stream from
+abbrev pub source_view : {E : Type 0} → StreamSource E → flat.StreamSource E
+source_view (Parents stream) = flat.parents stream
+source_view Nothing = flat.nothing
+source_view (Slot depth) = flat.slot depth
+source_view (Captured which) = flat.captured which
+source_view (Lent end) = flat.lent end.now
+
+-- the same for the three streams
+abbrev pub sources_view : {E : Type 0} → NodeContext E → PerStream (flat.StreamSource E)
+sources_view inside = record {
+  input = source_view inside.input;
+  output = source_view inside.output;
+  error = source_view inside.error;
+}
 
 -- the actions and the scopes of a list
 abbrev pub action_list_view : {E H : Type 0} → ActionList E H → ActionListView E H

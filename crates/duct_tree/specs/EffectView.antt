@@ -5,7 +5,7 @@ use Rattle.std.specs.Arc.{arc_value}
 use Rattle.duct_system.specs.declared.system.Side.{Side}
 use Rattle.duct_start.specs.Row as row
 use Rattle.duct_start.specs.Row.{Row, SettingView}
-use Rattle.duct_run.specs.ScopeView.{setting_view}
+use Rattle.duct_run.specs.ActionView.{setting_view}
 use Rattle.duct_run.specs.declared.scope.Setting.{Setting}
 use Rattle.duct_tree.specs.declared.effect.Effect.{Effect}
 use Rattle.duct_tree.specs.declared.effect.Mark.{Mark}

@@ -9,11 +9,9 @@ ghost use Rattle.duct_start.specs.ShapeOfTree.{shape_of_tree};
 ghost use Rattle.duct_start.specs.Row.{row};
 ghost use Rattle.duct_start.specs.TreeView.{ModifierView, TreeView, around};
 ghost use Rattle.duct_run.specs.RunContract.{tree_for};
-ghost use Rattle.duct_run.specs.ActionView.{action_view, actions_view};
-ghost use Rattle.duct_run.specs.ScopeView.{scopes_view};
+ghost use Rattle.duct_run.specs.ActionView.{action_view, actions_view, scopes_view};
 ghost use Rattle.duct_tree.specs.EffectView.{effect_view, input_route_view, opening_view, output_route_view, says_view};
-ghost use Rattle.duct_tree.specs.NodeContextView.{source_view, sources_view};
-ghost use Rattle.duct_tree.specs.ActionListView.{closings, action_list_view, openings, with_ending, with_scope, with_tree};
+ghost use Rattle.duct_tree.specs.ActionListView.{source_view, sources_view, closings, action_list_view, openings, with_ending, with_scope, with_tree};
 ghost use Rattle.duct_tree.specs.NodeView.{node_view};
 
 mod action_list;

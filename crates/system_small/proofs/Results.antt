@@ -23,7 +23,7 @@ use Rattle.duct_system.specs.declared.system.Said.{Said}
 use Rattle.duct_system.specs.declared.system.Said.TheVariants as said
 use Rattle.duct_status.proofs.Looks.{runs_append}
 use Rattle.duct_status.proofs.Order.{chosen_wins, winners_same}
-use Rattle.duct_status.specs.Choice.{chosen}
+use Rattle.duct_status.specs.Winner.{chosen}
 use Rattle.duct_status.specs.Endings as ends
 use Rattle.duct_status.specs.Endings.{Endings, Way, endings_of, status_at, status_of}
 use Rattle.duct_status.specs.EventView.{bytes_said}
@@ -43,7 +43,7 @@ use Rattle.duct_running.specs.Stored.{Bytes, stored_latest, stored_word}
 use Rattle.duct_handle.specs.Started.{AreNumbers}
 use Rattle.duct_handle.specs.Waited.{at_end}
 use Rattle.duct_handle.proofs.Polling.{failure_concluded, output_concluded}
-use Rattle.duct_handle.specs.Trimmed.{trimmed}
+use Rattle.duct_handle.specs.ReadsText.{trimmed}
 use Rattle.system_small.specs.Exits.{IsRun, IsUnnoted, IsWait}
 use Rattle.system_small.specs.Told.{MayAnswer, MayDrain, MayFeed, MayObey, captured_if, exit_of, printed}
 

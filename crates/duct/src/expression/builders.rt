@@ -1,8 +1,7 @@
 //! The calls that make an expression of another one.
 ghost use Rattle.std.specs.Prelude.{◌≡◌, map, IfOk, IsOkUnless};
 ghost use Rattle.duct_system.specs.SpecView.{var_view};
-ghost use Rattle.duct.specs.LastValues.{last_values};
-ghost use Rattle.duct.specs.Pairs.{pairs_of};
+ghost use Rattle.duct.specs.LastValues.{last_values, pairs_of};
 ghost use Rattle.duct_start.specs.TreeView.{pipe, around, stdin_bytes, stdin_path, stdin_file, stdin_null, stdout_path, stdout_file, stdout_null, stdout_capture, stdout_to_stderr, stderr_path, stderr_file, stderr_null, stderr_capture, stderr_to_stdout, stdout_stderr_swap, dir, env, env_remove, full_env, unchecked, before_spawn};
 ghost use Rattle.duct_tree.specs.NodeView.{modifier_view};
 ghost use Rattle.duct.specs.TreeView.{tree_view};

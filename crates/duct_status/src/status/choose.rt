@@ -1,7 +1,7 @@
 //! The winning command, chosen pipe by pipe.
 ghost use Rattle.std.specs.Prelude.{◌≡◌, ◌+◌, ◌<◌, ◌≤◌, not, ◌&&◌, ◌||◌, length, map, string_bytes, slice_get};
 ghost use Rattle.std.specs.Arc.{arc_value};
-ghost use Rattle.duct_status.specs.Choice.{chosen, is_failure, is_checked_failure};
+ghost use Rattle.duct_status.specs.Winner.{chosen, is_failure, is_checked_failure};
 ghost use Rattle.duct_status.specs.Endings.{endings_of, status_at, status_of, texts_at, is_checked};
 ghost use Rattle.duct_status.specs.ShapeView.{command_count, shape_view};
 ghost use Rattle.duct_system.specs.Status.{is_success};

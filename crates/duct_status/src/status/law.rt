@@ -1,8 +1,7 @@
 //! The law of precedence.
-ghost use Rattle.duct_status.specs.Choice.{chosen};
+ghost use Rattle.duct_status.specs.Winner.{chosen, IsWinner};
 ghost use Rattle.duct_status.specs.Endings.{Endings};
 ghost use Rattle.duct_status.specs.Laws.{IsStrictTotalOrder, ExactlyOneWins, FailsWhereSomeFails, UncheckedKeeps};
-ghost use Rattle.duct_status.specs.Winner.{IsWinner};
 
 /// Does nothing: its contract is the law. In every tree, with unchecked at any depth and any exit
 /// statuses, `Beats` is a strict total order on the commands, so exactly one command wins. The

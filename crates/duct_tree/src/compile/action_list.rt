@@ -2,8 +2,7 @@
 ghost use Rattle.std.specs.Prelude.{◌≡◌, ◌+◌, ◌++◌, ◌||◌, [], ◌∷◌, length, IfOk, OnOk, IsOkUnless};
 ghost use Rattle.duct_system.specs.declared.system.Side.TheVariants as side;
 ghost use Rattle.duct_run.specs.Actions.{captures_in, is_capture};
-ghost use Rattle.duct_run.specs.ActionView.{action_view, actions_view};
-ghost use Rattle.duct_run.specs.ScopeView.{scopes_view, setting_view};
+ghost use Rattle.duct_run.specs.ActionView.{action_view, actions_view, scopes_view, setting_view};
 ghost use Rattle.duct_tree.specs.ActionCounts.{feed_count, spawn_count};
 
 use duct_base::error::Error;

@@ -1,7 +1,7 @@
 //! The context of a node: its scope, and where its streams go.
 ghost use Rattle.std.specs.Prelude.{◌≡◌, ◌+◌, IfOk, IsOkUnless};
 ghost use Rattle.duct_run.specs.Flat.{root_sources};
-ghost use Rattle.duct_tree.specs.NodeContextView.{sources_view};
+ghost use Rattle.duct_tree.specs.ActionListView.{sources_view};
 
 use crate::compile::action_list::more;
 use duct_base::error::Error;

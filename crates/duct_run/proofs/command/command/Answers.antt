@@ -9,8 +9,7 @@ use Rattle.duct_run.specs.Commands.{HooksSucceed, HooksFail}
 use Rattle.duct_run.specs.ResourcesView.{ends_of_pipes, resources_view}
 use Rattle.duct_run.specs.ActionList.{scope_in}
 use Rattle.duct_run.proofs.Commanding.{hooks_refused, spawn_refused, spawned}
-use Rattle.duct_run.specs.ActionView.{ports_view}
-use Rattle.duct_run.specs.ScopeView.{scopes_view}
+use Rattle.duct_run.specs.ActionView.{ports_view, scopes_view}
 use Rattle.duct_run.specs.StreamsView.{many_ends, streams_view}
 use Rattle.duct_run.proofs.Made.{made_is_asked}
 use Rattle.duct_run.proofs.Pushed.{all_pushed, hand_fits, length_stack, many_given, many_spent, min_fits, pushed_number}

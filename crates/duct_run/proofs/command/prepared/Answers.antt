@@ -5,12 +5,11 @@ use Rattle.std.proofs.Common.{ap, ◌∙◌, map, string_bytes}
 use Rattle.duct_system.specs.SpecView.{pair_text}
 use Rattle.duct_run.specs.ActionList.{scope_in}
 use Rattle.duct_run.proofs.Commanding.{name_refused, spec_refused, unasked_refused}
-use Rattle.duct_run.specs.ActionView.{ports_view}
-use Rattle.duct_run.specs.Changes.{changes_of}
+use Rattle.duct_run.specs.ActionView.{ports_view, scopes_view}
+use Rattle.duct_run.specs.Settings.{changes_of}
 use Rattle.duct_run.specs.Made.{program_text}
 use Rattle.duct_run.proofs.Setting.{changes_found, folder_found, hooks_found}
 use Rattle.duct_start.specs.Surroundings.{variable}
-use Rattle.duct_run.specs.ScopeView.{scopes_view}
 use Rattle.duct_run.proofs.Pushed.{still}
 use Rattle.duct_run.proofs.command.prepared.Goals as goal
 

@@ -2,7 +2,7 @@
 use Rattle.std.proofs.Common.{◌≡◌, ◌++◌, length}
 use Rattle.std.specs.Prelude.{map}
 use Rattle.std.specs.Vec.Iter.{into_iter_items, into_iter_len}
-use Rattle.duct_run.specs.Closes.{Closes}
+use Rattle.duct_run.specs.GivesUp.{Closes}
 use Rattle.duct_run.proofs.ending.close_stack.Given as goal
 
 abbrev pub invariant-loop-end : goal.invariant-loop-end

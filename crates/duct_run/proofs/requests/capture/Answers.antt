@@ -1,6 +1,5 @@
 use Rattle.std.proofs.lemmas.Result.{err_from_is_err_and}
-use Rattle.duct_run.specs.OutputRead.{pipe_view}
-use Rattle.duct_run.specs.ResourcesView.{resources_view}
+use Rattle.duct_run.specs.ResourcesView.{pipe_view, resources_view}
 use Rattle.std.specs.Prelude.{Some}
 use Rattle.std.proofs.Common.{ap, refl, sym, ◌∙◌}
 use Rattle.duct_run.proofs.Captured.{capture_succeeds, capture_fails}

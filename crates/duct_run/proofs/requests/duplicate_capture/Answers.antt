@@ -1,6 +1,5 @@
 use Rattle.std.proofs.lemmas.Result.{err_from_is_err_and}
-use Rattle.duct_run.specs.OutputRead.{pipe_view}
-use Rattle.duct_run.specs.ResourcesView.{resources_view}
+use Rattle.duct_run.specs.ResourcesView.{pipe_view, resources_view}
 use Rattle.duct_run.specs.Actions as action
 use Rattle.std.proofs.Common.{ap, refl, rules, sym, ◌∙◌}
 use Rattle.duct_run.proofs.Going.{duplicate_fails, tap_succeeds}

@@ -4,8 +4,7 @@ use Rattle.std.proofs.lemmas.List.Elements.{All-cons, All-nil}
 use Rattle.std.specs.Option.{option_to_list}
 use Rattle.std.specs.Prelude.{Some, None, map}
 use Rattle.duct_system.specs.Job.{unpolled_job}
-use Rattle.duct_run.specs.OutputRead.{pipe_view}
-use Rattle.duct_run.specs.ResourcesView.{both, resources_view}
+use Rattle.duct_run.specs.ResourcesView.{pipe_view, both, resources_view}
 use Rattle.duct_status.specs.PerSide.{with_side}
 use Rattle.duct_run.proofs.Captured.{finish_succeeds, finish_fails}
 use Rattle.duct_run.proofs.CapturePipes.{each_with}

@@ -4,9 +4,8 @@ use Rattle.std.proofs.lemmas.Result.{err_from_is_err_and}
 use Rattle.duct_system.specs.SpecView.{pair_text}
 use Rattle.duct_run.specs.ActionList.{resolved, resolved_all}
 use Rattle.duct_run.proofs.Leaving.{leaves_on, leaves_same}
-use Rattle.duct_run.specs.ActionView.{action_view, actions_view}
+use Rattle.duct_run.specs.ActionView.{action_view, actions_view, all_scopes}
 use Rattle.duct_run.specs.ResourcesView.{resources_view}
-use Rattle.duct_run.specs.ScopeView.{all_scopes}
 use Rattle.duct_run.proofs.Pushed.{length_stack}
 use Rattle.duct_run.proofs.Turns.{can_here, goes_on_saying, memory_refused, new_same, pops_resolved, refused_now, rest_is, rest_none, room_here, invariant_done, stood_same, within_at, workers_on, workers_same}
 use Rattle.duct_run.proofs.run.perform_all.Goals as goal

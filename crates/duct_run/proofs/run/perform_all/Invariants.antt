@@ -5,9 +5,8 @@ use Rattle.duct_run.specs.Actions.{State}
 use Rattle.duct_start.specs.Left.{Leaves, pool_view}
 use Rattle.duct_run.specs.ActionList.{resolved_all}
 use Rattle.duct_run.specs.RunInvariant.{RunContext, ReadyForActions}
-use Rattle.duct_run.specs.ActionView.{actions_view}
+use Rattle.duct_run.specs.ActionView.{actions_view, all_scopes}
 use Rattle.duct_run.specs.ResourcesView.{AreNew, HasSameWorkers, resources_view}
-use Rattle.duct_run.specs.ScopeView.{all_scopes}
 use Rattle.duct_run.proofs.run.perform_all.Given as goal
 
 abbrev pub invariant-loop-action : goal.invariant-loop-action

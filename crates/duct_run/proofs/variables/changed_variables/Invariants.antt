@@ -2,7 +2,7 @@
 use Rattle.std.proofs.Common.{◌≡◌, ◌++◌, ◌∷◌, [], ℕ, List, map, vec_len}
 use Rattle.duct_system.specs.SpecView.{AreOrdered, pair_text, var_view}
 use Rattle.duct_start.specs.Surroundings.{Replaces, variable}
-use Rattle.duct_run.specs.Changes.{change_of, changes_of}
+use Rattle.duct_run.specs.Settings.{change_of, changes_of}
 use Rattle.duct_run.proofs.variables.changed_variables.Given as goal
 
 abbrev pub invariant-loop-change : goal.invariant-loop-change

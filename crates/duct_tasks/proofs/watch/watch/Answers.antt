@@ -1,6 +1,6 @@
 use Rattle.std.proofs.Common.{◌≡◌, false, inl, inr, refl, subst}
 use Rattle.duct_run.proofs.Seeing.{views_of}
-use Rattle.duct_running.specs.PolledOnce.{PolledOnce}
+use Rattle.duct_running.specs.Polled.{PolledOnce}
 use Rattle.duct_tasks.proofs.Staying.{stays_on, stays_same}
 use Rattle.duct_tasks.proofs.watch.watch.Goals as goal
 

@@ -3,7 +3,7 @@
 use Rattle.std.specs.Prelude.{false}
 use Rattle.std.proofs.Common.{◌≡◌, ◌⊎◌}
 use Rattle.duct_run.proofs.Seeing.{views_of}
-use Rattle.duct_running.specs.Stays.{StaysSame}
+use Rattle.duct_running.specs.Polled.{StaysSame}
 use Rattle.duct_tasks.specs.Until.{AreSignalled}
 use Rattle.duct_tasks.proofs.watch.watch.Given as goal
 

@@ -2,12 +2,10 @@
 use Rattle.std.proofs.Common.{◌≡◌, ◌+◌, length, ap, ◌∙◌}
 use Rattle.duct_run.specs.Flat.{on_side, source_inside}
 use Rattle.duct_run.specs.ActionList.{scope_index}
-use Rattle.duct_run.specs.ActionView.{actions_view}
-use Rattle.duct_run.specs.ScopeView.{scopes_view}
+use Rattle.duct_run.specs.ActionView.{actions_view, scopes_view}
 use Rattle.duct_tree.proofs.Rows.{entered}
 use Rattle.duct_tree.specs.EffectView.{effect_view}
-use Rattle.duct_tree.specs.NodeContextView.{sources_view}
-use Rattle.duct_tree.specs.ActionListView.{action_list_view, with_scope}
+use Rattle.duct_tree.specs.ActionListView.{sources_view, action_list_view, with_scope}
 use Rattle.duct_tree.proofs.compile.enter.Goals as goal
 
 pub returns-clause-list : goal.returns-clause-list

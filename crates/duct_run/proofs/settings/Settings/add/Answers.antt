@@ -2,7 +2,7 @@
 use Rattle.std.proofs.Common.{◌++◌, ◌∷◌, [], ap, sym, ◌∙◌, subst, append_assoc}
 use Rattle.duct_start.specs.Step.{step_of_setting}
 use Rattle.duct_run.specs.Flat.{scope_inside}
-use Rattle.duct_run.specs.ScopeView.{setting_view}
+use Rattle.duct_run.specs.ActionView.{setting_view}
 use Rattle.duct_run.specs.Settings.{Sets, hooks_of}
 use Rattle.duct_run.proofs.Setting.{hooks_of-more}
 use Rattle.duct_run.proofs.settings.Settings.add.Goals as goal
