@@ -28,7 +28,7 @@ pub struct Child<R: Processes> {
     id: u32,
     polls: u64,
     last: Option<Result<Option<ExitStatus>, Fault>>,
-    seen: Seen,
+    seen: SeenEnding,
     orders: Vec<(Order, Result<(), Fault>)>,
     command: Snapshot<Command>,
     started: process::Child<R::Started>,
@@ -36,7 +36,7 @@ pub struct Child<R: Processes> {
 
 /// How a poll saw a child end, if one did.
 #[derive(Clone, Copy)]
-struct Seen {
+struct SeenEnding {
     ending: Option<ExitStatus>,
     ghost possible: { IsTrue (can_answer (Ok ending)) },
 }
@@ -59,7 +59,7 @@ impl<R: Processes> Child<R> {
             id: process.id(),
             polls: 0,
             last: None,
-            seen: Seen { ending: None },
+            seen: SeenEnding { ending: None },
             orders: Vec::new(alloc),
             command,
             started: process,
@@ -74,7 +74,7 @@ fn kill_process<P: OpenProcess>(started: &mut process::Child<P>) -> Result<(), F
 
 /// What a poll returns: the ending that was seen before, or else what the machine says now.
 fn answer_of<P: OpenProcess>(
-    seen: Seen,
+    seen: SeenEnding,
     started: &mut process::Child<P>,
 ) -> Result<Option<ExitStatus>, Fault>
     ensures again { IfSome seen.ending (λ status. result ≡ Ok (Some status)) }
@@ -198,7 +198,7 @@ impl<R: Processes + Drop> system::Child for Child<R> {
         self.polls = self.polls.saturating_add(1);
         let answer = answer_of(self.seen, &mut self.started);
         if let Ok(Some(ending)) = answer {
-            self.seen = Seen {
+            self.seen = SeenEnding {
                 ending: Some(ending),
             };
         }

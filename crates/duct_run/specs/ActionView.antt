@@ -1,17 +1,19 @@
--- Actions as contracts see them.
-use Rattle.std.specs.Prelude.{ℕ, List, map, string_bytes, [], ◌∷◌}
+-- Scopes and actions as contracts see them.
+use Rattle.std.specs.Prelude.{ℕ, List, map, string_bytes, [], ◌∷◌, ◌≡◌, All, length}
 use Rattle.std.specs.Arc.{arc_value}
 use Rattle.std.specs.declared.string.String.{String}
 use Rattle.duct_system.specs.declared.spec.Port.{Port}
 use Rattle.duct_run.specs.Actions as action
-use Rattle.duct_run.specs.ActionList.{resolved_all, scope_in, ScopeEntry, scopes_from}
+use Rattle.duct_run.specs.ActionList.{AreOutwards, IsWithin, resolved_all, scope_in, ScopeEntry, scopes_from}
 use Rattle.duct_run.specs.Actions.{ActionOf, PerStream, Scope}
 use Rattle.duct_run.specs.declared.action.Action.{Action}
 use Rattle.duct_run.specs.declared.action.Action.TheVariants.{OpenRead, Create, Pipe, Input, Capture, Duplicate, DuplicateCapture, DuplicateCallerEnd, Parent, Close, Spawn, Feed}
 use Rattle.duct_run.specs.declared.action.Ports.{Ports}
-use Rattle.duct_run.specs.declared.scope.Scope.{Scope}
 use Rattle.duct_system.specs.SpecView.{var_view}
 use Rattle.duct_run.specs.Flat.{root_scope}
+use Rattle.duct_run.specs.RunContract.{LeadToSomePlan, OpenOutputCapture}
+use Rattle.duct_run.specs.declared.start.StartKind.{StartKind}
+use Rattle.duct_run.specs.declared.start.StartKind.TheVariants.{Reading}
 use Rattle.duct_start.specs.Surroundings.{Sets, Removes, Replaces}
 use Rattle.duct_start.specs.Row.{SettingView, says_folder, says_change, says_hook}
 use Rattle.duct_run.specs.declared.scope.Setting.{Setting}
@@ -63,12 +65,22 @@ abbrev pub actions_view : {E : Type 0} → List (Action E) → List (ActionOf E 
 actions_view actions = map (λ a. action_view a) actions
 
 -- the actions of a list, each with what its scope sets
-abbrev pub resolved_in : {E H : Type 0} → List (Scope E H) → List (Action E)
+abbrev pub resolved_in : {E H : Type 0} → List (declared.Scope E H) → List (Action E)
     → List (action.Action E H)
 resolved_in scopes actions = resolved_all (all_scopes scopes) (actions_view actions)
 
 -- the spawn of a command in the scope of this index
-abbrev pub spawn_in : {E H Z : Type 0} → List (Scope E H) → ℕ → List (String Z) → Ports
+abbrev pub spawn_in : {E H Z : Type 0} → List (declared.Scope E H) → ℕ → List (String Z) → Ports
     → action.Action E H
 spawn_in scopes index words ports =
     action.spawn (scope_in (scopes_view scopes) index) (map string_bytes words) (ports_view ports)
+
+-- a start of this kind can run these actions: each of its scopes comes after its outer one, each
+-- command is in one of them, the actions lead to some plan, and a start that reads opens stdout's
+-- capture pipe
+pub record CanStart {E H : Type 0} (number_of : E → ℕ) (kind : StartKind)
+    (scopes : List (declared.Scope E H)) (actions : List (Action E)) : Type 0 where
+  pub outwards : AreOutwards (scopes_view scopes)
+  pub within : All (IsWithin (length scopes)) (actions_view actions)
+  pub leads : LeadToSomePlan number_of (resolved_in scopes actions)
+  pub opens : kind ≡ Reading → OpenOutputCapture number_of (resolved_in scopes actions)

@@ -1,19 +1,21 @@
 -- What a request of a run does, by the views of its system.
-use Rattle.std.specs.Prelude.{OnOk, IfErr, List, ◌≡◌}
+use Rattle.std.specs.Prelude.{OnOk, IfErr, List, [], ◌≡◌, is_some}
 use Rattle.std.specs.declared.result.Result.{Result}
 use Rattle.duct_run.specs.Actions.{Action, State}
 use Rattle.duct_start.specs.Chain.{Allows, Refuses}
-use Rattle.duct_run.specs.ResourcesView.{ResourcesView, AreNew, HasSameWorkers, resources_view}
+use Rattle.duct_run.specs.ResourcesView.{ResourcesView, AreNew, HasSameWorkers, empty_resources, resources_view}
 use Rattle.duct_run.specs.RunInvariant.{ActionSucceeds, IsHookError, ActionFails, ReadyForActions, RunContext, RunInvariant}
 use Rattle.duct_system.specs.declared.error.Error.{Error}
 use Rattle.duct_base.specs.Pool.{PoolView, IsGiven}
+use Rattle.duct_start.specs.Left.{Leaves, pool_view}
 use Rattle.duct_system.specs.SpecView.{SpecView, Vars}
 use Rattle.duct_run.specs.Commands.{ActionSucceedsWith, ActionFailsWith, HooksFail, HooksSucceed, StoppedWithCause}
-use Rattle.duct_run.specs.RunContract.{PlanTail, ActionsFail, ActionsSucceed}
+use Rattle.duct_run.specs.RunContract.{PlanTail, ActionsFail, ActionsSucceed, HaveWorkers, tail_for}
 use Rattle.duct_run.specs.GivesUp.{GivesUp}
 use Rattle.duct_run.specs.StreamsView.{streams_view}
 use Rattle.duct_system.specs.SystemViews.{SystemViews}
 use Rattle.duct_run.specs.declared.resources.Resources.{Resources}
+use Rattle.duct_run.specs.declared.start.StartKind.{StartKind}
 use Rattle.duct_run.specs.declared.streams.Streams.{Streams}
 
 module _ {S E C F D V W : Type 0} (views : SystemViews S E C F D V W) where
@@ -129,3 +131,20 @@ module _ {S E C F D V W : Type 0} (views : SystemViews S E C F D V W) where
   RunGivesUp allows refuses ending actions sys after before left error = GivesUp allows refuses
       views.number_of views.child views.feed views.drain views.may_answer ending actions
       (views.journal sys) (views.journal after) before left error
+
+  -- nothing is held, and nothing that could be was used
+  pub record AreUnused (held : Resources E C F D) : Type 0 where
+    pub begun : resources_of held ≡ empty_resources
+    pub new : HoldsUnasked held
+
+  -- a run of a start of this kind succeeded: its requests, what it leaves in its resources, and the
+  -- pool, which was only swept
+  pub record StartRuns {H : Type 0} (allows : Allows H) (kind : StartKind)
+      (actions : List (Action E H)) (sys after : S) (before left : PoolView C)
+      (held : Resources E C F D) : Type 0 where
+    pub runs : RunSucceeds allows (tail_for kind) actions sys after held
+    pub new : HoldsUnasked held
+    pub workers : HaveWorkers kind views.number_of actions (is_some held.drains.out)
+        (is_some held.drains.err)
+    pub swept : Leaves views.may_answer [] (pool_view views.child before)
+        (pool_view views.child left)

@@ -3,10 +3,9 @@ ghost use Rattle.std.specs.Prelude.{◌≡◌, ◌≤◌, All, length, is_some, 
 ghost use Rattle.duct_system.specs.Trace.{segment};
 ghost use Rattle.duct_run.specs.ResourcesView.{empty_resources, pipe_view, HasSameWorkers};
 ghost use Rattle.duct_run.specs.ActionList.{AreOutwards, IsWithin};
-ghost use Rattle.duct_run.specs.RunContract.{HaveWorkers, IsReaderOf, LeadToSomePlan, OpenOutputCapture, no_tail, tail_for, IsRead};
-ghost use Rattle.duct_run.specs.declared.start.StartKind.TheVariants.{Reading};
-ghost use Rattle.duct_run.specs.ActionView.{actions_view, resolved_in, scopes_view};
-ghost use Rattle.duct_run.specs.Requested.{RunGivesUp, HoldsUnasked, RunFails, RunSucceeds, resources_of};
+ghost use Rattle.duct_run.specs.RunContract.{HaveWorkers, IsRead, IsReaderOf, LeadToSomePlan, no_tail, tail_for};
+ghost use Rattle.duct_run.specs.ActionView.{CanStart, actions_view, resolved_in, scopes_view};
+ghost use Rattle.duct_run.specs.Requested.{AreUnused, HoldsUnasked, RunFails, RunGivesUp, RunSucceeds, StartRuns, resources_of};
 ghost use Rattle.duct_start.specs.Left.{Leaves, pool_view};
 
 use crate::action::Action;
@@ -84,12 +83,8 @@ fn run<S: System, H: Hook>(
     kind: StartKind,
     held: &mut Resources<S::End, Place<S::Child>, S::Feed, S::Drain>,
 ) -> Result<Option<S::Reader>, Error>
-    requires outwards { AreOutwards (scopes_view scopes.now) }
-    requires within { All (IsWithin (length scopes.now)) (actions_view actions.now) }
+    requires can { CanStart S.End.number_of kind scopes.now actions.now }
     requires begun { resources_of ⟦<S as Viewed>⟧.views held.old ≡ empty_resources }
-    requires leads { LeadToSomePlan S.End.number_of (resolved_in scopes.now actions.now) }
-    requires opens { kind ≡ Reading
-        → OpenOutputCapture S.End.number_of (resolved_in scopes.now actions.now) }
     ensures ok { OnOk result (RunSucceeds ⟦<S as Viewed>⟧.views H.allows (tail_for kind)
         (resolved_in scopes.now actions.now) sys.old sys.new held.new) }
     ensures reader { IfOk result (IsReaderOf S.may_read kind (segment
@@ -140,23 +135,12 @@ pub fn start<S: System, H: Hook>(
     ),
     Error,
 >
-    requires outwards { AreOutwards (scopes_view scopes.now) }
-    requires within { All (IsWithin (length scopes.now)) (actions_view actions.now) }
-    requires begun { resources_of ⟦<S as Viewed>⟧.views held ≡ empty_resources }
-    requires new { HoldsUnasked ⟦<S as Viewed>⟧.views held }
-    requires leads { LeadToSomePlan S.End.number_of (resolved_in scopes.now actions.now) }
-    requires opens { kind ≡ Reading
-        → OpenOutputCapture S.End.number_of (resolved_in scopes.now actions.now) }
-    ensures ok { IfOk result (λ made. RunSucceeds ⟦<S as Viewed>⟧.views H.allows (tail_for kind)
-        (resolved_in scopes.now actions.now) sys.old sys.new made.0) }
+    requires can { CanStart S.End.number_of kind scopes.now actions.now }
+    requires unused { AreUnused ⟦<S as Viewed>⟧.views held }
+    ensures ok { IfOk result (λ made. StartRuns ⟦<S as Viewed>⟧.views H.allows kind
+        (resolved_in scopes.now actions.now) sys.old sys.new pool.old pool.new made.0) }
     ensures reader { IfOk result (λ made. IsReaderOf S.may_read kind (segment
         (S.journal_view sys.old).entries (S.journal_view sys.new).entries) made.1) }
-    ensures kept { IfOk result (λ made. HoldsUnasked ⟦<S as Viewed>⟧.views made.0) }
-    ensures workers { IfOk result (λ made. HaveWorkers kind S.End.number_of (resolved_in scopes.now
-        actions.now) (is_some made.0.drains.out) (is_some made.0.drains.err)) }
-    ensures swept { OnOk result (Leaves ⟦<S as Viewed>⟧.views.may_answer []
-        (pool_view ⟦<S as Viewed>⟧.views.child pool.old)
-        (pool_view ⟦<S as Viewed>⟧.views.child pool.new)) }
     ensures err { IfErr result (RunGivesUp ⟦<S as Viewed>⟧.views H.allows H.refuses (tail_for kind)
         (resolved_in scopes.now actions.now) sys.old sys.new pool.old pool.new) }
 {

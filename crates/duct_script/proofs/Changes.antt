@@ -4,30 +4,30 @@ use Rattle.duct_system.specs.declared.spec.Port.TheVariants.{Given}
 use Rattle.duct_system.specs.declared.spec.Stream.{Stream}
 use Rattle.duct_system.specs.declared.spec.Stream.TheVariants.{In, Out, Err}
 use Rattle.duct_system.specs.SpecView.{SpecView, GivesNothing}
-use Rattle.duct_script.specs.declared.hook.Target.{Target}
-use Rattle.duct_script.specs.declared.hook.Target.TheVariants.{Inherit, Null, Place}
+use Rattle.duct_script.specs.declared.hook.Destination.{Destination}
+use Rattle.duct_script.specs.declared.hook.Destination.TheVariants.{Inherit, Null, HookEnd}
 use Rattle.duct_script.specs.declared.hook.SpecChange.{SpecChange}
 use Rattle.duct_script.specs.declared.hook.SpecChange.TheVariants.{Word, Var, NoVar, NoVars, Folder, Port}
 use Rattle.duct_script.specs.Settings.{port_to, with_port, changed_by, changed}
 
--- no target becomes the port `Given`
-target_not_given : (to : Target) → port_to to ≡ Given → ⊥
-target_not_given Inherit is = cc
-target_not_given Null is = cc
-target_not_given (Place place) is = cc
+-- no destination becomes the port `Given`
+destination_not_given : (to : Destination) → port_to to ≡ Given → ⊥
+destination_not_given Inherit is = cc
+destination_not_given Null is = cc
+destination_not_given (HookEnd place) is = cc
 
--- redirecting a stream to a target gives no stream an end
-with_port_gives_nothing : (stream : Stream) (to : Target) (spec : SpecView)
+-- redirecting a stream to a destination gives no stream an end
+with_port_gives_nothing : (stream : Stream) (to : Destination) (spec : SpecView)
     → GivesNothing spec (with_port stream (port_to to) spec)
-with_port_gives_nothing In to spec In is = absurd (target_not_given to is)
+with_port_gives_nothing In to spec In is = absurd (destination_not_given to is)
 with_port_gives_nothing In to spec Out is = is
 with_port_gives_nothing In to spec Err is = is
 with_port_gives_nothing Out to spec In is = is
-with_port_gives_nothing Out to spec Out is = absurd (target_not_given to is)
+with_port_gives_nothing Out to spec Out is = absurd (destination_not_given to is)
 with_port_gives_nothing Out to spec Err is = is
 with_port_gives_nothing Err to spec In is = is
 with_port_gives_nothing Err to spec Out is = is
-with_port_gives_nothing Err to spec Err is = absurd (target_not_given to is)
+with_port_gives_nothing Err to spec Err is = absurd (destination_not_given to is)
 
 -- a change that keeps all ports gives no stream an end
 same_ports : (before after : SpecView) → after.input ≡ before.input → after.output ≡ before.output

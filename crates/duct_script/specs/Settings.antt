@@ -22,8 +22,8 @@ use Rattle.duct_script.specs.declared.requests.Sort.TheVariants.{Environment, Pi
 use Rattle.duct_script.specs.declared.requests.Refusal.{Refusal}
 use Rattle.duct_script.specs.declared.requests.Requests.{Requests}
 use Rattle.duct_script.specs.declared.system.Script.{Script}
-use Rattle.duct_script.specs.declared.hook.Target.{Target}
-use Rattle.duct_script.specs.declared.hook.Target.TheVariants as target
+use Rattle.duct_script.specs.declared.hook.Destination.{Destination}
+use Rattle.duct_script.specs.declared.hook.Destination.TheVariants as destination
 use Rattle.duct_script.specs.declared.hook.SpecChange.{SpecChange}
 use Rattle.duct_script.specs.declared.hook.SpecChange.TheVariants as change
 use Rattle.duct_script.specs.declared.hook.HookAnswer.{HookAnswer}
@@ -109,11 +109,11 @@ pub record IsUnset (sys : Script) : Type 0 where
   pub calls_are : sys.calls ≡ None
   pub starved_is : sys.starved ≡ false
 
--- the port of a target
-abbrev pub port_to : Target → Port
-port_to target.Inherit = port.Inherit
-port_to target.Null = port.Null
-port_to (target.Place place) = port.Place place
+-- the port of a destination
+abbrev pub port_to : Destination → Port
+port_to destination.Inherit = port.Inherit
+port_to destination.Null = port.Null
+port_to (destination.HookEnd place) = port.Place place
 
 -- the spec with this port for a stream
 abbrev pub with_port : Stream → Port → SpecView → SpecView

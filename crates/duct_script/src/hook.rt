@@ -15,13 +15,13 @@ use std::sync::Arc;
 
 /// Where a hook sends a stream.
 #[derive(Clone, Copy, Debug, PartialEq, Eq, Drop)]
-pub enum Target {
+pub enum Destination {
     /// To the parent's own stream.
     Inherit,
     /// To nothing.
     Null,
     /// To the end at this place among the hook's ends, counted from 0.
-    Place(usize),
+    HookEnd(usize),
 }
 
 /// One change of a spec.
@@ -37,8 +37,8 @@ pub enum SpecChange {
     NoVars,
     /// Sets the folder.
     Folder(String),
-    /// Sends a stream to this target.
-    Port(Stream, Target),
+    /// Sends a stream to this destination.
+    Port(Stream, Destination),
 }
 
 /// What a hook returns after its changes.
@@ -145,20 +145,20 @@ fn make(change: &SpecChange, spec: &mut CommandSpec) -> Result<(), Error>
         SpecChange::NoVar(name) => spec.env_remove(name.as_str()),
         SpecChange::NoVars => spec.env_clear(),
         SpecChange::Folder(folder) => spec.current_dir(folder.as_str())?,
-        SpecChange::Port(stream, target) => redirect(spec, *stream, port(*target)),
+        SpecChange::Port(stream, destination) => redirect(spec, *stream, port(*destination)),
     }
     Ok(())
 }
 
-/// Returns the target as a port.
-fn port(target: Target) -> Port
-    ensures port { result ≡ port_to target }
+/// Returns the destination as a port.
+fn port(destination: Destination) -> Port
+    ensures port { result ≡ port_to destination }
     ensures given { result ≢ Given }
 {
-    match target {
-        Target::Inherit => Port::Inherit,
-        Target::Null => Port::Null,
-        Target::Place(place) => Port::Place(place),
+    match destination {
+        Destination::Inherit => Port::Inherit,
+        Destination::Null => Port::Null,
+        Destination::HookEnd(place) => Port::Place(place),
     }
 }
 

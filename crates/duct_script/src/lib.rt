@@ -23,7 +23,7 @@ pub use checker::{
 pub use child::{ChildScript, PollAnswer, ScriptChild};
 pub use clock::ScriptClock;
 pub use gate::{Gate, Gated};
-pub use hook::{HookAnswer, ScriptHook, SpecChange, Target};
+pub use hook::{Destination, HookAnswer, ScriptHook, SpecChange};
 pub use job::{DrainScript, FeedScript, ScriptDrain, ScriptFeed};
 pub use reader::{ReadStep, ReaderScript, ScriptReader};
 pub use requests::{Requests, Sort};

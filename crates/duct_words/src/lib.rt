@@ -13,6 +13,6 @@ mod writer;
 pub use error::{LineError, ShellTextError, SplitError};
 pub use lexer::split;
 pub use quoted::quote;
-pub use reader::line;
+pub use reader::parse;
 pub use token::Token;
 pub use writer::shell_text;

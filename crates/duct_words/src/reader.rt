@@ -23,8 +23,8 @@ use std::mem;
 /// Fails with `LineError::Split` as `split` does, and with `LineError::Usage` at an operator with
 /// no path behind it and at a command without words.
 ///
-/// Example: `line(alloc, "grep 'a | b' < in | wc -l")?`
-pub fn line<E: Drop, H: Drop>(alloc: Global, text: &str) -> Result<Expression<E, H>, LineError>
+/// Example: `parse(alloc, "grep 'a | b' < in | wc -l")?`
+pub fn parse<E: Drop, H: Drop>(alloc: Global, text: &str) -> Result<Expression<E, H>, LineError>
     ensures { ParsesAs tree_view result (line_of text.now) }
 {
     let tokens = split(alloc, text).map_err(LineError::Split)?;

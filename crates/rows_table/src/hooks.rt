@@ -2,7 +2,7 @@
 use crate::expressions::Log;
 use crate::stop::TableError;
 use crate::words::{fault, stream};
-use duct_script::{HookAnswer, ScriptHook, SpecChange, Target};
+use duct_script::{Destination, HookAnswer, ScriptHook, SpecChange};
 use std::alloc::Global;
 use std::sync::Arc;
 
@@ -45,16 +45,16 @@ fn change(alloc: Global, key: &str, text: &str) -> Result<SpecChange, TableError
         ("unset", _) if text.is_empty() => Ok(SpecChange::NoVars),
         ("unset", _) => Ok(SpecChange::NoVar(String::from_str(alloc, text)?)),
         ("dir", _) => Ok(SpecChange::Folder(String::from_str(alloc, text)?)),
-        ("", Some((name, place))) => Ok(SpecChange::Port(stream(name)?, target(place)?)),
+        ("", Some((name, place))) => Ok(SpecChange::Port(stream(name)?, destination(place)?)),
         ("", None) => Ok(SpecChange::Word(String::from_str(alloc, text)?)),
         _ => Err(TableError::Text("no such part of a hook")),
     }
 }
 
-fn target(place: &str) -> Result<Target, TableError> {
+fn destination(place: &str) -> Result<Destination, TableError> {
     match place {
-        "inherit" => Ok(Target::Inherit),
-        "null" => Ok(Target::Null),
-        place => Ok(Target::Place(place.parse::<usize>()?)),
+        "inherit" => Ok(Destination::Inherit),
+        "null" => Ok(Destination::Null),
+        place => Ok(Destination::HookEnd(place.parse::<usize>()?)),
     }
 }

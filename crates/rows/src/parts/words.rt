@@ -3,7 +3,7 @@ use crate::parts::Parts;
 use duct::{Error, Stream};
 use duct_program::Usage;
 use duct_script::ScriptEnd;
-use duct_words::{LineError, ShellTextError, SplitError, Token, line, quote, shell_text, split};
+use duct_words::{LineError, ShellTextError, SplitError, Token, parse, quote, shell_text, split};
 use rows_table::{TableError, Tree, arguments, written};
 use std::alloc::AllocError;
 
@@ -49,7 +49,7 @@ fn push_tokens(text: &mut String, row: &Parts) -> Result<(), TableError> {
 
 /// Adds the expression of the text of a row, or why it has none.
 fn push_meant(text: &mut String, row: &Parts) -> Result<(), TableError> {
-    let meant: Result<Tree<ScriptEnd>, LineError> = line(row.alloc, text_of(row)?.as_str());
+    let meant: Result<Tree<ScriptEnd>, LineError> = parse(row.alloc, text_of(row)?.as_str());
     match meant {
         Ok(tree) => write!(text, "{tree:?}")?,
         Err(LineError::Split(SplitError::Memory) | LineError::Usage(Usage::Memory)) => {

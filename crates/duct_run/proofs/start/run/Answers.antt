@@ -13,13 +13,21 @@ use Rattle.duct_run.proofs.RunContract.{finished_more, read_more, refused_before
 use Rattle.duct_run.proofs.Turns.{some_mapped}
 use Rattle.duct_run.proofs.start.run.Goals as goal
 
+pub run_actions-requires : goal.run_actions-requires
+run_actions-requires g c = record {
+  outwards = c.requires.can.outwards;
+  within = c.requires.can.within;
+  begun = c.requires.begun;
+  leads = c.requires.can.leads;
+}
+
 pub returns-in_err-run_actions-clause-err : goal.returns-in_err-run_actions-clause-err
 returns-in_err-run_actions-clause-err g c =
     let p = err_from_is_err_and c.from_residual.result c.from_residual.ensures.1 in
     rw (p.1, p.2) (refused_before (tail_for c.args.kind) (tail_more c.args.kind) c.in_err-run_actions.ensures.err)
 
 pub finish-requires-clause-room : goal.finish-requires-clause-room
-finish-requires-clause-room g c = run_room c.in_ok-run_actions.ensures.ok c.requires.leads
+finish-requires-clause-room g c = run_room c.in_ok-run_actions.ensures.ok c.requires.can.leads
 
 pub returns-in_err-finish-in-Draining-clause-err : goal.returns-in_err-finish-in-Draining-clause-err
 returns-in_err-finish-in-Draining-clause-err g c =
@@ -29,7 +37,7 @@ returns-in_err-finish-in-Draining-clause-err g c =
 
 pub finish-requires-in-Draining-clause-room : goal.finish-requires-in-Draining-clause-room
 finish-requires-in-Draining-clause-room g c =
-    run_room (run_succeeds c.in_ok-run_actions.ensures.ok side.Out c.in_ok-finish-in-Draining.ensures.ok) c.requires.leads
+    run_room (run_succeeds c.in_ok-run_actions.ensures.ok side.Out c.in_ok-finish-in-Draining.ensures.ok) c.requires.can.leads
 
 pub returns-in_err-finish-in-Draining-2-clause-err : goal.returns-in_err-finish-in-Draining-2-clause-err
 returns-in_err-finish-in-Draining-2-clause-err g c =
@@ -50,7 +58,7 @@ returns-in_ok-finish-in-Draining-2-clause-workers g c =
     ))
 
 pub finish-requires-in-Reading-clause-room : goal.finish-requires-in-Reading-clause-room
-finish-requires-in-Reading-clause-room g c = run_room c.in_ok-run_actions.ensures.ok c.requires.leads
+finish-requires-in-Reading-clause-room g c = run_room c.in_ok-run_actions.ensures.ok c.requires.can.leads
 
 pub returns-in_err-finish-in-Reading-clause-err : goal.returns-in_err-finish-in-Reading-clause-err
 returns-in_err-finish-in-Reading-clause-err g c =
@@ -61,14 +69,14 @@ returns-in_err-finish-in-Reading-clause-err g c =
 pub read_output-requires-clause-open : goal.read_output-requires-clause-open
 read_output-requires-clause-open g c =
     let once = run_succeeds c.in_ok-run_actions.ensures.ok side.Err c.in_ok-finish-in-Reading.ensures.ok in
-    let l = c.requires.leads in
-    sym (some_mapped _ _) ∙ (once.1 l.0 l.1 l.2 l.3).shaped.pipes side.Out ∙ c.requires.opens c.in-Reading.is l.0 l.1 l.2 l.3
+    let l = c.requires.can.leads in
+    sym (some_mapped _ _) ∙ (once.1 l.0 l.1 l.2 l.3).shaped.pipes side.Out ∙ c.requires.can.opens c.in-Reading.is l.0 l.1 l.2 l.3
 
 pub read_output-requires-clause-room : goal.read_output-requires-clause-room
 read_output-requires-clause-room g c =
     let once = run_succeeds c.in_ok-run_actions.ensures.ok side.Err c.in_ok-finish-in-Reading.ensures.ok in
-    let l = c.requires.leads in
-    two_spent _ _ ((once.1 l.0 l.1 l.2 l.3).shaped.pipes side.Out ∙ c.requires.opens c.in-Reading.is l.0 l.1 l.2 l.3) _ (run_room once l)
+    let l = c.requires.can.leads in
+    two_spent _ _ ((once.1 l.0 l.1 l.2 l.3).shaped.pipes side.Out ∙ c.requires.can.opens c.in-Reading.is l.0 l.1 l.2 l.3) _ (run_room once l)
 
 pub returns-in_ok-finish-in-Reading-clause-ok : goal.returns-in_ok-finish-in-Reading-clause-ok
 returns-in_ok-finish-in-Reading-clause-ok g c =
@@ -80,7 +88,7 @@ pub returns-in_ok-finish-in-Reading-clause-reader : goal.returns-in_ok-finish-in
 returns-in_ok-finish-in-Reading-clause-reader g c =
     let once = run_succeeds c.in_ok-run_actions.ensures.ok side.Err c.in_ok-finish-in-Reading.ensures.ok in
     let r = c.read_output.ensures.read in
-    rw c.in-Reading.is (reader_last r.pipe_is r.closed r.made once g.S.System.may_read r.told c.requires.leads)
+    rw c.in-Reading.is (reader_last r.pipe_is r.closed r.made once g.S.System.may_read r.told c.requires.can.leads)
 
 pub returns-in_ok-finish-in-Reading-clause-workers : goal.returns-in_ok-finish-in-Reading-clause-workers
 returns-in_ok-finish-in-Reading-clause-workers g c =
