@@ -124,8 +124,7 @@ module _ {S E C F D : Type 0} (views : SystemViews S E C F D (Unit {0}) Bytes) w
   abbrev pub Returns : {H : Type 0} → Output → MadeBy E H
   Returns output kind tree added =
       (waited : RunningView C F D) × Ran views waited kind tree added
-      × StoresReply views waited
-      (answered output.status output.stdout.items output.stderr.items)
+      × StoresReply views waited (answered output.status output.stdout.items output.stderr.items)
 
   -- so is this error, or an allocation failed
   abbrev pub Fails : {H : Type 0} → Error → RunningView C F D → MadeBy E H

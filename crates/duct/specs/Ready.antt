@@ -9,7 +9,7 @@ use Rattle.duct_start.specs.ShapeOfTree.{shape_of_tree}
 use Rattle.duct_start.specs.TreeView.{TreeView}
 use Rattle.duct_run.specs.ResourcesView.{IsEmpty}
 use Rattle.duct_run.specs.RunContract.{tree_for}
-use Rattle.duct_running.specs.FitsShape.{FitsShape}
+use Rattle.duct_running.specs.RunningInvariant.{FitsShape}
 use Rattle.duct_tree.specs.ActionListView.{action_list_view}
 use Rattle.duct.specs.Launched.{StartKind, drains_error, drains_output}
 use Rattle.duct.specs.declared.start.Ready.{Ready}

@@ -32,8 +32,7 @@ module _ {S E C F D : Type 0} (views : SystemViews S E C F D (Unit {0}) Bytes)
   -- the text is that of all bytes of the reader that the entries name
   abbrev pub ReadsBy : List EntryView → String Global → RunningView C F D → Type 0
   ReadsBy added text waited =
-      (reader : R) × MadeReader may added reader
-      × HasText views (remaining reader) text waited
+      (reader : R) × MadeReader may added reader × HasText views (remaining reader) text waited
 
   -- this is the reader that the entries name; it failed with a fault, and no child was polled, or
   -- there is no text of its bytes

@@ -14,8 +14,7 @@ use Rattle.duct_system.specs.declared.system.Kind.TheVariants.{OutOfMemory}
 -- what a writer holds, where that is known, grew by a prefix of these bytes, which may be all of
 -- them
 abbrev pub AppendsFront : Option (List ℕ) → Option (List ℕ) → List ℕ → Type 0
-AppendsFront old new bytes = (front rest : List ℕ) × (bytes ≡ front ++ rest)
-    × Appends old new front
+AppendsFront old new bytes = (front rest : List ℕ) × (bytes ≡ front ++ rest) × Appends old new front
 
 -- the kind of the error that stops a writer or a reader at this result of a write or a read
 abbrev pub stop_of : Result ℕ Error → Option ErrorKind

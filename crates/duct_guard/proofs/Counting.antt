@@ -10,7 +10,8 @@ use Rattle.duct_system.specs.SpecView.{SpecView}
 use Rattle.duct_system.specs.Streams.{ends_of}
 use Rattle.duct_system.specs.declared.system.Fault.{Fault}
 use Rattle.duct_system.specs.declared.system.Stdio.{Stdio}
-use Rattle.duct_guard.specs.Held.{IsCrew, Joins, Leaves, child_of, with_children, with_ends, with_entry, without_ends}
+use Rattle.duct_system.specs.Started.{child_by}
+use Rattle.duct_guard.specs.Held.{IsCrew, Joins, Leaves, with_children, with_ends, with_entry, without_ends}
 use Rattle.duct_guard.specs.GuardView.{IsForwarded, Keeps}
 use Rattle.duct_guard.specs.Rules.{Rules}
 use Rattle.duct_guard.specs.declared.counts.Held.{Held}
@@ -81,7 +82,7 @@ module _ {may_answer : ℕ → Answer → Type 0} {rules : Rules} {earlier held 
       → Keeps may_answer rules earlier held own below running
       → IsForwarded rules held entry below next → Notes entry own.entries own.added room more
       → room ≤ own.room + length (opened_by entry) - length (spent_by entry) + 1
-      → child_of entry ≡ [] → new ≡ without_ends (with_ends held (opened_by entry)) (spent_by entry)
+      → child_by entry ≡ [] → new ≡ without_ends (with_ends held (opened_by entry)) (spent_by entry)
       → Keeps may_answer rules earlier new more next running
   noted_one kept sent noted few none counted =
       noted_by kept sent noted few (counted ∙ entry_is _ _ none)

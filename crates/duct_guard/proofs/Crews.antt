@@ -9,7 +9,8 @@ use mathlib.Core.Logic.{∥∥₁_map, ∥∥₁_map₂, ∥∥₁_elim}
 use Rattle.std.proofs.Math.Bridge.{le_prop}
 use Rattle.duct_system.specs.Child.{Answer}
 use Rattle.duct_system.specs.EntryView.{EntryView}
-use Rattle.duct_guard.specs.Held.{HasEnded, HaveEnded, IsCrew, Joins, Leaves, child_of, children_of, held_after, with_entry}
+use Rattle.duct_system.specs.Started.{child_by, children_in}
+use Rattle.duct_guard.specs.Held.{HasEnded, HaveEnded, IsCrew, Joins, Leaves, held_after, with_entry}
 use Rattle.duct_guard.specs.declared.counts.Held.{Held}
 use Rattle.duct_guard.proofs.Holding.{children_now}
 
@@ -20,18 +21,18 @@ read_twice crew place one other within first second =
     first ∙ get_or_default crew place one other within ∙ sym second
 
 children_append : (entries : List EntryView) (entry : EntryView)
-    → children_of (entries ++ entry ∷ []) ≡ children_of entries ++ child_of entry
-children_append [] entry = append-nil (child_of entry)
+    → children_in (entries ++ entry ∷ []) ≡ children_in entries ++ child_by entry
+children_append [] entry = append-nil (child_by entry)
 children_append (e ∷ es) entry =
-    ap (λ l. child_of e ++ l) (children_append es entry) ∙ sym (append_assoc (child_of e) (children_of es) (child_of entry))
+    ap (λ l. child_by e ++ l) (children_append es entry) ∙ sym (append_assoc (child_by e) (children_in es) (child_by entry))
 
 -- the count of children, by those that were started
 held_children : (held : Held) (entries : List EntryView)
-    → (held_after held entries).children ≡ held.children + length (children_of entries)
+    → (held_after held entries).children ≡ held.children + length (children_in entries)
 held_children held [] = omega arith
 held_children held (e ∷ es) =
     let rest = held_children (with_entry held e) es in
-    let parts = length-append (child_of e) (children_of es) in
+    let parts = length-append (child_by e) (children_in es) in
     let now = children_now held e in omega (arith, rest, parts, now)
 
 module _ (may_answer : ℕ → Answer → Type 0) where
@@ -134,38 +135,38 @@ module _ (may_answer : ℕ → Answer → Type 0) where
     crew_left own running kept crew leaves = ∥∥₁_map₂ crew leaves (λ was left. record {
       before = was.before;
       counted = was.counted;
-      leaves = left_after (was.before ++ children_of own) running kept was.leaves left;
+      leaves = left_after (was.before ++ children_in own) running kept was.leaves left;
       few = let fewer = fewer_left running kept left in let few = was.few in omega (arith, fewer, few);
     })
 
     -- an entry that started no child
     pub crew_same : (own more : List EntryView) (entry : EntryView) (running : List ℕ)
-        → ∥ IsCrew may_answer limit earlier own running ∥₁ → child_of entry ≡ []
+        → ∥ IsCrew may_answer limit earlier own running ∥₁ → child_by entry ≡ []
         → more ≡ own ++ entry ∷ [] → ∥ IsCrew may_answer limit earlier more running ∥₁
     crew_same own more entry running crew none is = ∥∥₁_map crew (λ was. record {
       before = was.before;
       counted = was.counted;
       leaves = subst (λ l. Leaves may_answer (was.before ++ l) running)
-          (sym (ap children_of is ∙ children_append own entry ∙ ap (λ l. children_of own ++ l) none ∙ append-nil (children_of own))) was.leaves;
+          (sym (ap children_in is ∙ children_append own entry ∙ ap (λ l. children_in own ++ l) none ∙ append-nil (children_in own))) was.leaves;
       few = was.few;
     })
 
     -- an entry that started one
     pub crew_joined : (own more : List EntryView) (entry : EntryView) (running new : List ℕ)
         (number : ℕ) → ∥ IsCrew may_answer limit earlier own running ∥₁
-        → ∥ Joins may_answer limit running number new ∥₁ → child_of entry ≡ number ∷ []
+        → ∥ Joins may_answer limit running number new ∥₁ → child_by entry ≡ number ∷ []
         → more ≡ own ++ entry ∷ [] → ∥ IsCrew may_answer limit earlier more new ∥₁
     crew_joined own more entry running new number crew joins one is =
         ∥∥₁_map₂ crew joins (λ was join.
-        let all = left_after (was.before ++ children_of own) running join.kept was.leaves join.leaves in
-        let children : (was.before ++ children_of own) ++ number ∷ [] ≡ was.before ++ children_of more =
-        append_assoc was.before (children_of own) (number ∷ [])
-        ∙ ap (λ l. was.before ++ l) (ap (λ l. children_of own ++ l) (sym one) ∙ sym (children_append own entry) ∙ ap children_of (sym is)) in
+        let all = left_after (was.before ++ children_in own) running join.kept was.leaves join.leaves in
+        let children : (was.before ++ children_in own) ++ number ∷ [] ≡ was.before ++ children_in more =
+        append_assoc was.before (children_in own) (number ∷ [])
+        ∙ ap (λ l. was.before ++ l) (ap (λ l. children_in own ++ l) (sym one) ∙ sym (children_append own entry) ∙ ap children_in (sym is)) in
         record {
           before = was.before;
           counted = was.counted;
           leaves = subst (λ l. Leaves may_answer l new) children
-              (subst (Leaves may_answer ((was.before ++ children_of own) ++ number ∷ [])) (sym join.new_is) (one_joined _ join.kept number all));
+              (subst (Leaves may_answer ((was.before ++ children_in own) ++ number ∷ [])) (sym join.new_is) (one_joined _ join.kept number all));
           few = let few = join.few in let more = length-append join.kept (number ∷ []) in rw join.new_is (omega (arith, few, more));
         })
 
@@ -185,9 +186,9 @@ module _ (may_answer : ℕ → Answer → Type 0) where
         → length crew ≤ held.children
     crew_started number earlier_held held own members crew first counted =
         ∥∥₁_elim crew le_prop (λ was.
-        let fewer = fewer_left (was.before ++ children_of own) (map number members) was.leaves in
+        let fewer = fewer_left (was.before ++ children_in own) (map number members) was.leaves in
         let long = length-map members number in
-        let parts = length-append was.before (children_of own) in
+        let parts = length-append was.before (children_in own) in
         let all = ap (λ (h : Held). h.children) counted ∙ held_children earlier_held own in
         let before = was.counted in
         omega (arith, fewer, long, parts, all, before, first))
@@ -198,10 +199,10 @@ module _ (may_answer : ℕ → Answer → Type 0) where
       → held ≡ held_after earlier own → none ≡ []
       → ∥ IsCrew may_answer limit held.children none running ∥₁
   crew_cleared limit earlier held own none running crew counted is = ∥∥₁_map crew (λ was. record {
-    before = was.before ++ children_of own;
+    before = was.before ++ children_in own;
     counted =
-        length-append was.before (children_of own) ∙ ap (λ n. n + length (children_of own)) was.counted
+        length-append was.before (children_in own) ∙ ap (λ n. n + length (children_in own)) was.counted
         ∙ sym (ap (λ (h : Held). h.children) counted ∙ held_children earlier own);
-    leaves = rw is (subst (λ l. Leaves may_answer l running) (sym (append-nil (was.before ++ children_of own))) was.leaves);
+    leaves = rw is (subst (λ l. Leaves may_answer l running) (sym (append-nil (was.before ++ children_in own))) was.leaves);
     few = was.few;
   })

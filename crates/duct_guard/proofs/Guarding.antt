@@ -20,7 +20,8 @@ use Rattle.duct_system.specs.declared.system.Kind.{Kind}
 use Rattle.duct_system.specs.declared.system.Stdio.{Stdio}
 use Rattle.duct_guard.specs.Rules.{AreAllowed, AreDenied, Rules, canonicalize, is_allowed, is_denial, spawn}
 use Rattle.duct_guard.specs.GuardView.{AddsAll, ClosesFirst, Crowded, Forwards, ForwardsAll, IsForwarded, LostPath, LostVars, Passed, Refused, allows_spawn, may_ask, refusal, GotEnd, asked_of, end_entry}
-use Rattle.duct_guard.specs.Held.{held_after, is_within, with_entry, child_of}
+use Rattle.duct_system.specs.Started.{child_by}
+use Rattle.duct_guard.specs.Held.{held_after, is_within, with_entry}
 use Rattle.duct_guard.specs.declared.counts.Held.{Held}
 use Rattle.duct_guard.specs.declared.requests.EndRequest.{EndRequest}
 use Rattle.duct_guard.specs.declared.requests.EndRequest.TheVariants as asks
@@ -278,7 +279,7 @@ pub record OpensEnd (entry : Result ℕ Fault → EntryView) : Type 0 where
   pub opened : (n : ℕ) → opened_by (entry (Ok n)) ≡ n ∷ []
   pub unopened : (fault : Fault) → opened_by (entry (Err fault)) ≡ []
   pub spent : (answer : Result ℕ Fault) → spent_by (entry answer) ≡ []
-  pub started : (answer : Result ℕ Fault) → child_of (entry answer) ≡ []
+  pub started : (answer : Result ℕ Fault) → child_by (entry answer) ≡ []
   pub told : (fault : Fault) → fault_of (entry (Err fault)) ≡ Some fault
 
 module _ {E : Type 0} (number : E → ℕ) where

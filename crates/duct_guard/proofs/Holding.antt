@@ -14,7 +14,8 @@ use Rattle.duct_system.specs.Trace.{fault_of}
 use Rattle.duct_system.specs.declared.system.Fault.{Fault}
 use Rattle.duct_guard.specs.Rules.{Rules, is_allowed}
 use Rattle.duct_guard.specs.GuardView.{Forwards, Passed, Refused, Crowded, LostVars, LostPath, ForwardsAll}
-use Rattle.duct_guard.specs.Held.{counts_of, started_by, with_children, with_ends, with_entry, held_after, is_within, Fits, AlwaysFits, child_of, without_end, without_ends, IsBegun, nothing_held}
+use Rattle.duct_system.specs.Started.{child_by}
+use Rattle.duct_guard.specs.Held.{counts_of, started_by, with_children, with_ends, with_entry, held_after, is_within, Fits, AlwaysFits, without_end, without_ends, IsBegun, nothing_held}
 use Rattle.duct_guard.specs.declared.counts.Counts.{Counts}
 use Rattle.duct_guard.specs.declared.counts.Held.{Held}
 
@@ -52,7 +53,7 @@ none_started held =
     λ i. record { ends = held.ends; children = same i; first = held.first }
 
 -- what is held after an entry that starts no child
-pub entry_is : (held : Held) (entry : EntryView) → child_of entry ≡ []
+pub entry_is : (held : Held) (entry : EntryView) → child_by entry ≡ []
     → without_ends (with_ends held (opened_by entry)) (spent_by entry) ≡ with_entry held entry
 entry_is held entry none =
     let now = without_ends (with_ends held (opened_by entry)) (spent_by entry) in

@@ -62,8 +62,7 @@ end_entry number_of (asks.Parent side) answer = Parent side answer
 -- a request with such entries returned this end, or failed with this fault
 pub record GotEnd {E : Type 0} (number_of : E → ℕ) (entry : Result ℕ Fault → EntryView)
     (made : Result E Fault) (old new : JournalView) : Type 0 where
-  pub ok : IfOk made (λ end.
-      GetsEnd (entry (Ok (number_of end))) (number_of end) old new)
+  pub ok : IfOk made (λ end. GetsEnd (entry (Ok (number_of end))) (number_of end) old new)
   pub err : IfErr made (λ fault. IsRefused (entry (Err fault)) 0 fault old new)
 
 -- whether the request of an entry is allowed, where this is held

@@ -5,6 +5,7 @@ use Rattle.std.specs.List.Sorted.{IsPermutation}
 use Rattle.duct_system.specs.Child.{Answer}
 use Rattle.duct_system.specs.EntryView.{EntryView, Pipe, OpenRead, Create, Duplicate, Parent, Spawn}
 use Rattle.duct_system.specs.Ledger.{opened_by, spent_by}
+use Rattle.duct_system.specs.Started.{child_by, children_in}
 use Rattle.duct_system.specs.declared.system.ExitStatus.{ExitStatus}
 use Rattle.duct_guard.specs.declared.counts.Counts.{Counts}
 use Rattle.duct_guard.specs.declared.counts.Held.{Held}
@@ -37,14 +38,9 @@ without_ends held (number ∷ numbers) = without_ends (without_end held number) 
 abbrev pub with_children : Held → ℕ → Held
 with_children held count = record held { children = held.children + count }
 
--- the child that the request of an entry started
-abbrev pub child_of : EntryView → List ℕ
-child_of (Spawn spec io (Ok number)) = number ∷ []
-child_of _ = []
-
--- how many children it started
+-- how many children the request of an entry started
 abbrev pub started_by : EntryView → ℕ
-started_by entry = length (child_of entry)
+started_by entry = length (child_by entry)
 
 -- what is held after one more entry: ends that its request returned are open, and those of them
 -- that it took are not any more; a child counts also after it has ended
@@ -92,13 +88,7 @@ HasEnded may_answer number = (status : ExitStatus) × ∥ may_answer number (Ok 
 -- of each of these children
 abbrev pub HaveEnded : (ℕ → Answer → Type 0) → List ℕ → Type 0
 HaveEnded may_answer [] = Unit {0}
-HaveEnded may_answer (number ∷ numbers) =
-    HasEnded may_answer number × HaveEnded may_answer numbers
-
--- the children that some entries started
-abbrev pub children_of : List EntryView → List ℕ
-children_of [] = []
-children_of (entry ∷ entries) = child_of entry ++ children_of entries
+HaveEnded may_answer (number ∷ numbers) = HasEnded may_answer number × HaveEnded may_answer numbers
 
 -- of some children, all are left but those that have ended
 pub record Leaves (may_answer : ℕ → Answer → Type 0) (children left : List ℕ) : Type 0 where
@@ -121,5 +111,5 @@ pub record IsCrew (may_answer : ℕ → Answer → Type 0) (limit earlier : ℕ)
     (entries : List EntryView) (running : List ℕ) : Type 0 where
   pub before : List ℕ
   pub counted : length before ≡ earlier
-  pub leaves : Leaves may_answer (before ++ children_of entries) running
+  pub leaves : Leaves may_answer (before ++ children_in entries) running
   pub few : length running ≤ limit

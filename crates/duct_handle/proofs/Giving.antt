@@ -10,7 +10,7 @@ use Rattle.duct_base.specs.Pool.{PoolView}
 use Rattle.duct_run.specs.Requested.{PoolGets}
 use Rattle.duct_system.specs.SystemViews.{SystemViews}
 use Rattle.duct_running.specs.NumbersView.{NumbersView, numbers_of}
-use Rattle.duct_handle.specs.AreGiven.{AreGiven}
+use Rattle.duct_handle.specs.Finished.{AreGiven}
 
 module _ {S E C F D V W : Type 0} (views : SystemViews S E C F D V W) (running : RunningView C F D)
     (kept numbers : NumbersView) (before after : PoolView C) where

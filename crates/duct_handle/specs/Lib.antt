@@ -1,4 +1,3 @@
-pub mod AreGiven
 pub mod Finished
 pub mod HandleView
 pub mod Obeyed

@@ -20,8 +20,7 @@ module _ {S E C F D V W : Type 0} (views : SystemViews S E C F D V W) where
   CommandAnswers order number heard =
       ((status : ExitStatus) × views.may_answer number (Ok (Some status)) × (heard ≡ Ok tt))
       ⊎ views.may_obey number order true heard
-      ⊎ (views.may_obey number order false heard
-      × (heard ≡ Err (record { kind = OutOfMemory })))
+      ⊎ (views.may_obey number order false heard × (heard ≡ Err (record { kind = OutOfMemory })))
 
   -- each of these numbers returns a result, and the result of the order is the leftmost fault among
   -- them
@@ -33,8 +32,7 @@ module _ {S E C F D V W : Type 0} (views : SystemViews S E C F D V W) where
   -- the same, or `Other`, which means that what the lock holds differs from these numbers
   abbrev pub IsObeyed : Order → List ℕ → Result (Unit {0}) Error → Type 0
   IsObeyed order numbers result =
-      (result ≡ Err (error.System (record { kind = Other })))
-      ⊎ ∥ AllObey order numbers result ∥₁
+      (result ≡ Err (error.System (record { kind = Other }))) ⊎ ∥ AllObey order numbers result ∥₁
 
   -- each child that had not ended was given the order once, the result is the leftmost fault, and
   -- the shape and the workers are as before

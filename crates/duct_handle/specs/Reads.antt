@@ -33,15 +33,13 @@ module _ {S E C F D : Type 0} (views : SystemViews S E C F D (Unit {0}) Bytes) w
       ((count : ℕ) × (result ≡ Ok count) × ((0 < count) ⊎ (room ≡ 0)) × (after ≡ before))
       ⊎ ((fault : Fault) × (0 < room) × (result ≡ Err (error.System fault)) × (after ≡ before))
       ⊎ ((waited : Result (Arc Output Global) Error) × (0 < room)
-      × Waited views handle before after (at_end waited)
-      × (result ≡ at_close waited))
+      × Waited views handle before after (at_end waited) × (result ≡ at_close waited))
 
   -- what a read returns at EOF, after a wait for what runs
   abbrev pub ClosesAs : HandleView → SeenView → SeenView → Result ℕ Error → Type 0
   ClosesAs handle before after result =
       (waited : Result (Arc Output Global) Error)
-      × Waited views handle before after (at_end waited)
-      × (result ≡ at_close waited)
+      × Waited views handle before after (at_end waited) × (result ≡ at_close waited)
 
 -- the kind of a fault, `OutOfMemory` for an allocation failure, and `Other` for each other error
 abbrev pub kind_read : Error → ErrorKind

@@ -16,8 +16,7 @@ pub record AreNumbers (output error : Bool) (added : List EntryView) (numbers : 
     : Type 0 where
   pub children_are : numbers.children ≡ children_in added
   pub feeds_are : numbers.feeds ≡ feeds_in added
-  pub drains_are : option_to_list numbers.output ++ option_to_list numbers.error
-      ≡ drains_in added
+  pub drains_are : option_to_list numbers.output ++ option_to_list numbers.error ≡ drains_in added
   pub output_is : is_some numbers.output ≡ output
   pub error_is : is_some numbers.error ≡ error
 

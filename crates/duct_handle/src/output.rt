@@ -7,7 +7,7 @@ ghost use Rattle.duct_running.specs.Answered.{IsAnswer, IsConcluded};
 ghost use Rattle.duct_running.specs.Polled.{IsOutput};
 ghost use Rattle.duct_status.specs.ReplyView.{answered};
 ghost use Rattle.duct_running.specs.NumbersView.{numbers_of, numbers_view};
-ghost use Rattle.duct_handle.specs.AreGiven.{AreGiven};
+ghost use Rattle.duct_handle.specs.Finished.{AreGiven};
 
 use crate::buffers::into_locked;
 use crate::handle::Handle;

@@ -100,10 +100,8 @@ request_data values (Pipe answer) = string (codes "pipe") ∷ []
 request_data values (OpenRead path answer) = string (codes "open_read") ∷ string path ∷ []
 request_data values (Create path answer) = string (codes "create") ∷ string path ∷ []
 request_data values (Duplicate end answer) = string (codes "duplicate") ∷ number_data end ∷ []
-request_data values (Parent side answer) =
-    string (codes "parent") ∷ string (side_name side) ∷ []
-request_data values (Canonicalize path answer) =
-    string (codes "canonicalize") ∷ string path ∷ []
+request_data values (Parent side answer) = string (codes "parent") ∷ string (side_name side) ∷ []
+request_data values (Canonicalize path answer) = string (codes "canonicalize") ∷ string path ∷ []
 request_data values (Spawn spec streams answer) = spawn_data values spec streams
 request_data values (Feed end bytes answer) =
     string (codes "feed") ∷ number_data end ∷ bytes_data bytes ∷ []
@@ -592,5 +590,4 @@ AllRead values items = AllByRecursion (λ item. ReadsFirst (item_text values ite
 
 -- behind what was read comes the item that the line means
 abbrev pub AddsItem : List ℕ → RecordedView → RecordedView → Type 0
-AddsItem line old new =
-    (item : ItemView) × (new ≡ and_item item old) × (item_line line ≡ Ok item)
+AddsItem line old new = (item : ItemView) × (new ≡ and_item item old) × (item_line line ≡ Ok item)

@@ -190,8 +190,7 @@ abbrev pub ReadsOf : Result (Option Shared) Fault → ℕ → ℕ → Result ℕ
 ReadsOf (Ok (Some bytes)) given room result =
     result ≡ Ok (min (length (drop given (bytes_of bytes))) room)
 ReadsOf (Ok None) given room result = IsErrAnd result (λ error. error_kind error ≡ Other)
-ReadsOf (Err fault) given room result =
-    IsErrAnd result (λ error. error_kind error ≡ OutOfMemory)
+ReadsOf (Err fault) given room result = IsErrAnd result (λ error. error_kind error ≡ OutOfMemory)
 
 -- the bytes that were found are these, or they could have no further owner
 abbrev pub HasFound : Option (List ℕ) → Result (Option Shared) Fault → Type 0

@@ -39,8 +39,7 @@ abbrev pub list_of_subtree : {E H : Type 0} → ℕ → PerStream (StreamSource 
     → ActionListView E H
 list_of_subtree i w (command words) n next = record {
   actions = command_actions i w words;
-  scopes =
-      [];
+  scopes = [];
 }
 list_of_subtree i w (pipe left right) n next =
     let a = list_of_subtree i (with_output (slot (n + 1)) w) left (n + 2) next in
@@ -56,8 +55,7 @@ list_of_subtree i w (around modifier inner) n next =
     (next_index r.says next) in
     record {
       actions = actions_around r.opens a.actions;
-      scopes = with_scope_entry r.says i
-          a.scopes;
+      scopes = with_scope_entry r.says i a.scopes;
     }
 
 -- the scope of an index, or the root's if there is none; the first scope of the list is the root's
@@ -73,8 +71,7 @@ with_scope known scope = known ++ scope_inside (step_of_setting scope.0) (scope_
 abbrev pub scopes_from : {E H : Type 0} → List (Scope E H) → List (ScopeEntry E H)
     → List (Scope E H)
 scopes_from known [] = known
-scopes_from known (scope ∷ scopes) =
-    scopes_from (with_scope known scope) scopes
+scopes_from known (scope ∷ scopes) = scopes_from (with_scope known scope) scopes
 
 -- the scope of this index, where the root's scope has the index 0
 abbrev pub scope_in : {E H : Type 0} → List (ScopeEntry E H) → ℕ → Scope E H

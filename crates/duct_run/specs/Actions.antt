@@ -117,8 +117,7 @@ with_plan plan = record { stack = []; plan = plan }
 -- the state with these ends pushed onto the stack, and one more item
 abbrev pub with_opened_ends : {E H : Type 0} → List (Target E) → Item E H → State E H → State E H
 with_opened_ends tops item state = record {
-  stack = tops
-      ++ state.stack;
+  stack = tops ++ state.stack;
   plan = with_item item state.plan;
 }
 
@@ -156,8 +155,7 @@ advance state (feed bytes) = record {
 }
 advance state (finish which) = record {
   stack = state.stack;
-  plan = with_capture_finished which
-      state.plan;
+  plan = with_capture_finished which state.plan;
 }
 
 -- the state after a list of actions

@@ -1,5 +1,4 @@
 pub mod Answered
-pub mod FitsShape
 pub mod RunningInvariant
 pub mod NumbersView
 pub mod Ordered

@@ -11,6 +11,7 @@ use Rattle.duct_status.specs.Latest.{Latest}
 use Rattle.duct_status.specs.ShapeView.{ShapeView, command_count, input_count}
 use Rattle.duct_running.specs.Stored.{Bytes, stored_latest}
 use Rattle.duct_running.specs.Allowed.{AnswersAllowed}
+use Rattle.duct_running.specs.declared.running.RunningBuffers.{RunningBuffers}
 
 -- the core's words are those that the children and workers store, each one that its child or worker
 -- may return; there are as many of these as the shape has; the ids are the children's; and there is
@@ -29,3 +30,11 @@ pub record RunningInvariant {C F D : Type 0} (child : C → ChildView) (feed : F
   pub named : ids ≡ map (λ c. c.process) (map child children)
   pub empty : room.items ≡ []
   pub fits : length (option_to_list output ++ option_to_list error) ≤ vec_capacity room
+
+-- the room is empty, and is enough for the ids of the commands of this shape and for two capture
+-- workers
+pub record FitsShape {D : Type 0} (shape : ShapeView) (room : RunningBuffers D) : Type 0 where
+  pub unnamed : room.ids.items ≡ []
+  pub named : command_count shape ≤ vec_capacity room.ids
+  pub empty : room.drains.items ≡ []
+  pub drained : 2 ≤ vec_capacity room.drains

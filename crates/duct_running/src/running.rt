@@ -9,7 +9,7 @@ ghost use Rattle.duct_status.specs.ReplyView.{reply_view};
 ghost use Rattle.duct_status.specs.ShapeView.{command_count, input_count, shape_view};
 ghost use Rattle.duct_running.specs.Polled.{IsConclusion, Gives, ReturnsOutcome, ChildAskedAt, ChildrenAsked, FeedPolledAt, FeedsPolled, StreamPolled, is_awaited, PolledOnce};
 ghost use Rattle.duct_running.specs.Stored.{answer_word};
-ghost use Rattle.duct_running.specs.FitsShape.{FitsShape};
+ghost use Rattle.duct_running.specs.RunningInvariant.{FitsShape};
 ghost use Rattle.duct_run.specs.Requested.{HoldsUnasked};
 ghost use Rattle.duct_running.specs.NumbersView.{numbers_of};
 ghost use Rattle.duct_running.specs.Allowed.{OneRuns, StoresAllowed};

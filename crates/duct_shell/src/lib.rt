@@ -40,8 +40,8 @@ pub use tee::Tee;
 pub use threads::{SharedHandle, SharedReader};
 
 // What a program over a shell needs of the library.
-pub use duct_base::text::{EntryText, RequestText, write_arguments};
 pub use duct::{Clock, Error, ExitStatus, Expression, Handle, Output, ReaderHandle, System};
+pub use duct_base::text::{EntryText, RequestText, write_arguments};
 pub use duct_tasks::{Late, LateRead, Until};
 
 /// A command: `cmd!(sh; program, arg, ..)` is `sh.cmd(program, &[arg, ..])`. A trailing comma is

@@ -10,7 +10,7 @@ ghost use Rattle.duct_status.specs.ShapeView.{shape_view};
 ghost use Rattle.duct_start.specs.TreeView.{command};
 ghost use Rattle.duct_run.specs.Requested.{PoolGets};
 ghost use Rattle.duct_running.specs.Answered.{IsAnswer, IsConcluded};
-ghost use Rattle.duct_handle.specs.AreGiven.{AreGiven};
+ghost use Rattle.duct_handle.specs.Finished.{AreGiven};
 ghost use Rattle.duct_handle.specs.Obeyed.{IsObeyed};
 ghost use Rattle.duct.specs.Launched.{draining};
 ghost use Rattle.duct.specs.TreeView.{tree_view};

@@ -11,5 +11,4 @@ pub mod Ran
 pub mod Settled
 pub mod Shown
 pub mod Stays
-pub mod Texts
 pub mod Threads

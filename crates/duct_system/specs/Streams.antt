@@ -1,6 +1,5 @@
 -- The three streams of a child: their ends, and that they fit in memory.
-use Rattle.std.specs.Prelude.{◌*◌, ◌<◌, ◌^◌, List, [], ◌∷◌, flat_map, Some, None}
-use Rattle.std.specs.declared.option.Option.{Option}
+use Rattle.std.specs.Prelude.{◌*◌, ◌<◌, ◌^◌, List, [], ◌∷◌, flat_map, option_to_list, Option}
 use Rattle.std.specs.Borrow.{RattleType}
 use prog.Memory.{size}
 use denote.Param.{layout}
@@ -30,6 +29,4 @@ ends_of io = flat_map end_of io
 
 -- the ends of a list in which some are missing
 abbrev pub present : {E : Type 0} → List (Option E) → List E
-present [] = []
-present (Some e ∷ ends) = e ∷ present ends
-present (None ∷ ends) = present ends
+present ends = flat_map option_to_list ends

@@ -1,9 +1,9 @@
 //! What is read off an entry of a journal, and the name of a kind of fault.
-ghost use Rattle.std.specs.Prelude.{◌≡◌, ◌∷◌, []};
+ghost use Rattle.std.specs.Prelude.{◌≡◌, option_to_list};
 ghost use Rattle.duct_system.specs.EntryView.{entry_view};
 ghost use Rattle.duct_system.specs.Kinds.{kind_name};
 ghost use Rattle.duct_system.specs.Ledger.{opened_by, spent_by};
-ghost use Rattle.duct_system.specs.Streams.{end_of, present};
+ghost use Rattle.duct_system.specs.Streams.{end_of, ends_of, present};
 ghost use Rattle.duct_system.specs.Trace.{fault_of, is_close};
 
 use crate::system::{Entry, Fault, Kind, Stdio};
@@ -69,9 +69,7 @@ impl Entry {
         ensures { present result ≡ spent_by (entry_view self.now) }
     {
         match self {
-            Entry::Spawn(_, [input, output, error], _) => {
-                [end_in(input), end_in(output), end_in(error)]
-            }
+            Entry::Spawn(_, io, _) => ends_in(io),
             Entry::Feed(end, _, _)
             | Entry::Drain(end, _)
             | Entry::Reader(end)
@@ -94,9 +92,17 @@ impl Entry {
     }
 }
 
+// Returns the number of the end of each stream that has one.
+fn ends_in(io: &[Stdio<u64>; 3]) -> [Option<u64>; 3]
+    ensures { present result ≡ ends_of io.now }
+{
+    let [input, output, error] = io;
+    [end_in(input), end_in(output), end_in(error)]
+}
+
 // Returns the number of the end of a stream, if it has one.
 fn end_in(stream: &Stdio<u64>) -> Option<u64>
-    ensures { present (result ∷ []) ≡ end_of stream.now }
+    ensures { option_to_list result ≡ end_of stream.now }
 {
     match stream {
         Stdio::Inherit | Stdio::Null => None,

@@ -71,5 +71,4 @@ closings (opens_capture which) actions = actions
 
 -- the list, plus the actions of a modifier that come after those of the inner expression
 abbrev pub with_ending : {E H : Type 0} → ModifierView E H → ActionListView E H → ActionListView E H
-with_ending modifier list =
-    record list { actions = closings (row modifier).opens list.actions }
+with_ending modifier list = record list { actions = closings (row modifier).opens list.actions }

@@ -109,8 +109,7 @@ module _ {E H : Type 0} where
             text_of in_folder settings inner >>= λ text.
             Ok (codes "( " ++ (text ++ (codes ") " ++ (operator
             ++ (codes " " ++ word_text path)))))
-        | fixed end ↦
-            text_of in_folder settings inner >>= λ text. Ok (codes "( " ++ (text ++ end))
+        | fixed end ↦ text_of in_folder settings inner >>= λ text. Ok (codes "( " ++ (text ++ end))
       ]
 
   -- the text of a tree

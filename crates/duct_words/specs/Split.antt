@@ -219,8 +219,7 @@ end_of state =
 -- the tokens after the bytes from a place on
 abbrev pub read : ℕ → State → List ℕ → Result (List TokenView) SplitError
 read place state [] = end_of state
-read place state (b ∷ bytes) =
-    step place state b (b ∷ []) >>= λ after. read (suc place) after bytes
+read place state (b ∷ bytes) = step place state b (b ∷ []) >>= λ after. read (suc place) after bytes
 
 -- the tokens of a text, or the first error in it from left to right
 abbrev pub split_of : List ℕ → Result (List TokenView) SplitError

@@ -1,5 +1,5 @@
 use Rattle.std.proofs.Common.{string_bytes}
-use Rattle.duct_status.proofs.Texts.{texts_decide}
+use Rattle.duct_system.proofs.Texts.{texts_decide}
 use Rattle.duct_status.proofs.status.same.same_words.Goals as goal
 
 pub returns : goal.returns
