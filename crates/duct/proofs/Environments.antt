@@ -1,7 +1,6 @@
 -- What a lookup finds of variables that are inserted one after the other.
-use Rattle.std.specs.Prelude.{ℕ, List, [], ◌∷◌, ◌++◌, cond, fold, Some}
 use Rattle.std.specs.List.Sorted.{IsStrictlySortedBy}
-use Rattle.std.proofs.Common.{Option, ◌≡◌, refl, ap, sym, ◌∙◌, append_assoc}
+use Rattle.std.proofs.Common.{Option, ◌≡◌, refl, ap, sym, ◌∙◌, append_assoc, ℕ, List, [], ◌∷◌, ◌++◌, cond, fold, Some}
 use Rattle.std.proofs.lemmas.List.{append-nil}
 use Rattle.duct_system.specs.Name.{is_same_name}
 use Rattle.duct_system.specs.SpecView.{Vars, AreOrdered, said_of, spelled, variable_in, with_var}

@@ -1,10 +1,6 @@
 -- What a start that was waited for returns, and what it leaves of the pool.
-use Rattle.std.proofs.Common.{◌≡◌, ℕ, Bool, List, [], ◌∷◌, refl, inl, inr, ◌∙◌}
+use Rattle.std.proofs.Common.{◌≡◌, ℕ, Bool, List, [], ◌∷◌, refl, inl, inr, ◌∙◌, map, IfOk, IfErr, OnOk, Ok, Err, All, Option, Result}
 use Rattle.std.proofs.lemmas.List.Elements.{All-cons, All-nil, All-head, All-tail}
-use Rattle.std.specs.List.{All}
-use Rattle.std.specs.Prelude.{map, IfOk, IfErr, OnOk, Ok, Err}
-use Rattle.std.specs.declared.option.Option.{Option}
-use Rattle.std.specs.declared.result.Result.{Result}
 use Rattle.duct_base.specs.Pool.{PoolView}
 use Rattle.duct_system.specs.Child.{ChildView, IsUnasked}
 use Rattle.duct_system.specs.EntryView.{EntryView}

@@ -1,6 +1,5 @@
 -- The run of the list of a tree is the start of the tree, whichever kind of start it is.
-use Rattle.std.proofs.Common.{◌≡◌, Bool, ◌+◌, ◌*◌, ◌∙◌, List, [], length, refl, sym}
-use Rattle.std.specs.Prelude.{is_some}
+use Rattle.std.proofs.Common.{◌≡◌, Bool, ◌+◌, ◌*◌, ◌∙◌, List, [], length, refl, sym, is_some}
 use Rattle.std.proofs.lemmas.List.{length-map}
 use Rattle.duct_base.specs.Pool.{PoolView}
 use Rattle.duct_system.specs.declared.error.Error.{Error}

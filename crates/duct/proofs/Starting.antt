@@ -1,8 +1,6 @@
 -- The list that a start runs is that of its tree.
-use Rattle.std.proofs.Common.{◌≡◌, ℕ, List, ◌∷◌, [], ◌∙◌, ap, length, subst, sym}
+use Rattle.std.proofs.Common.{◌≡◌, ℕ, List, ◌∷◌, [], ◌∙◌, ap, length, subst, sym, is_some, All}
 use Rattle.std.proofs.lemmas.List.{length-map}
-use Rattle.std.specs.List.{All}
-use Rattle.std.specs.Prelude.{is_some}
 use Rattle.duct_system.specs.declared.system.Side.{Side}
 use Rattle.duct_run.specs.Actions.{ActionOf, captures_in}
 use Rattle.duct_start.specs.Plan.{capture_place, initial_plan, plan_of_subtree}

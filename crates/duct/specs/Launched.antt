@@ -1,8 +1,6 @@
 -- What a start promises: of the journal, of what it makes, and of the pool.
-use Rattle.std.specs.Prelude.{ℕ, Bool, List, ◌⊎◌, false, is_some, map, []}
+use Rattle.std.specs.Prelude.{ℕ, Bool, List, ◌⊎◌, false, is_some, map, [], Option, String}
 use Rattle.std.specs.declared.alloc.Global.{Global}
-use Rattle.std.specs.declared.option.Option.{Option}
-use Rattle.std.specs.declared.string.String.{String}
 use Rattle.duct_base.specs.Pool.{PoolView}
 use Rattle.duct_system.specs.EntryView.{EntryView}
 use Rattle.duct_system.specs.Trace.{segment}

@@ -1,8 +1,6 @@
 -- Children that are polled one after another, in a pool and as they are given to it.
-use Rattle.std.proofs.Common.{Bool, true, false, if◌then◌else◌, ◌≡◌, ℕ, zero, suc, ◌+◌, ◌<◌, ◌≤◌, List, [], ◌∷◌, ◌++◌, length, refl, ap, sym, ◌∙◌, arith, append_assoc, subst, inl, inr, take, drop, add-one, add-zero, zero-add}
+use Rattle.std.proofs.Common.{Bool, true, false, if◌then◌else◌, ◌≡◌, ℕ, zero, suc, ◌+◌, ◌<◌, ◌≤◌, List, [], ◌∷◌, ◌++◌, length, refl, ap, sym, ◌∙◌, arith, append_assoc, subst, inl, inr, take, drop, add-one, add-zero, zero-add, map, Some, None, Ok, Err, Option}
 use Rattle.std.proofs.lemmas.List.{append-nil, take_all, drop_all}
-use Rattle.std.specs.Prelude.{map, Some, None, Ok, Err}
-use Rattle.std.specs.declared.option.Option.{Option}
 use Rattle.duct_system.specs.Child.{Answer, ChildView, PollsChild}
 use Rattle.duct_base.specs.Pool.{PoolView, in_nodes, counted, PollsAll, Sieves}
 use Rattle.duct_system.specs.declared.system.ExitStatus.{ExitStatus}

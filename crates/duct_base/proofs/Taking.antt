@@ -1,7 +1,6 @@
 -- Children that are given to a pool one after another.
-use Rattle.std.proofs.Common.{ℕ, ◌≡◌, ◌+◌, ◌^◌, ◌<◌, List, [], ◌∷◌, ◌++◌, length, refl, ap, sym, ◌∙◌, arith, append_assoc, length-append}
+use Rattle.std.proofs.Common.{ℕ, ◌≡◌, ◌+◌, ◌^◌, ◌<◌, List, [], ◌∷◌, ◌++◌, length, refl, ap, sym, ◌∙◌, arith, append_assoc, length-append, Ok, None}
 use Rattle.std.proofs.lemmas.List.{append-nil}
-use Rattle.std.specs.Prelude.{Ok, None}
 use Rattle.duct_system.specs.Child.{Answer, ChildView, PollsChild}
 use Rattle.duct_base.specs.Pool.{PoolView, IsGiven, counted}
 use Rattle.duct_base.proofs.Sieving.{Takes, counted_more, sieves-append, sieves_fewer}

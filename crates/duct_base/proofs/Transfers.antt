@@ -1,12 +1,10 @@
 -- Lemmas on what was written and read so far, one step at a time.
-use Rattle.std.proofs.Common.{◌≡◌, ℕ, ◌+◌, ◌-◌, List, ◌++◌, IfOk, OnErr, length, take, drop, sym, ap, subst, ◌∙◌, append_assoc, take-append-drop, take-add, drop_at}
+use Rattle.std.proofs.Common.{◌≡◌, ℕ, ◌+◌, ◌-◌, List, ◌++◌, IfOk, OnErr, length, take, drop, sym, ap, subst, ◌∙◌, append_assoc, take-append-drop, take-add, drop_at, Option, Result}
 use lib.Seq.{take-append-le}
 use Rattle.std.proofs.KnownBytes.{Appends-trans, Consumes-trans, Consumes-kept}
 use Rattle.std.proofs.lemmas.List.{take_rest}
 use Rattle.std.specs.Io.{ReadsAtMost}
 use Rattle.std.specs.Io.KnownBytes.{Appends, Consumes, Keeps}
-use Rattle.std.specs.declared.option.Option.{Option}
-use Rattle.std.specs.declared.result.Result.{Result}
 use Rattle.std.specs.declared.result.Result.TheVariants.{Ok, Err}
 use Rattle.duct_base.specs.Transfer.{ConsumesFront}
 

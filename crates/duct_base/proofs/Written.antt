@@ -1,12 +1,10 @@
 -- What a loop over some items writes: a text of what was written so far and of what is left.
-use Rattle.std.proofs.Common.{◌≡◌, ℕ, ◌+◌, ◌<◌, ◌≤◌, List, [], ◌∷◌, Ok, Some, ap, drop, get_or, length, refl, subst, sym, ◌∙◌}
+use Rattle.std.proofs.Common.{◌≡◌, ℕ, ◌+◌, ◌<◌, ◌≤◌, List, [], ◌∷◌, Ok, Some, ap, drop, get_or, length, refl, subst, sym, ◌∙◌, Option, Result}
 use Rattle.std.proofs.Output.{displays_on_IsOk_append, writes_in_calls_nil}
 use Rattle.std.proofs.lemmas.List.{at_drop_all, at_drop_more}
 use Rattle.std.specs.Fmt.{DisplaysOnOk, ◌++?◌}
 use Rattle.std.specs.declared.fmt.Error.{Error}
 use Rattle.std.specs.declared.fmt.Formatter.{Formatter}
-use Rattle.std.specs.declared.option.Option.{Option}
-use Rattle.std.specs.declared.result.Result.{Result}
 
 module _ {W : Type 0} (took : W → List ℕ → W → Type 0) where
   -- who writes what is left to the second formatter has written all to the first one

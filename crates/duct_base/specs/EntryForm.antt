@@ -1,6 +1,5 @@
 -- The text of an entry: its request, and its fault if the system refused it.
-use Rattle.std.specs.Prelude.{ℕ, List, [], ◌∷◌, ◌++◌, codes, Some, None}
-use Rattle.std.specs.declared.option.Option.{Option}
+use Rattle.std.specs.Prelude.{ℕ, List, [], ◌∷◌, ◌++◌, codes, Some, None, Option}
 use Rattle.duct_system.specs.EntryView.{EntryView, Environment, Pipe, OpenRead, Create, Duplicate, Parent, Canonicalize, Spawn, Feed, Drain, Reader, Close}
 use Rattle.duct_system.specs.Kinds.{kind_name}
 use Rattle.duct_system.specs.SpecView.{SpecView}

@@ -1,7 +1,5 @@
 -- Ends that are closed as far as there is room, stream by stream.
-use Rattle.std.specs.Prelude.{ℕ, zero, suc, List, [], ◌∷◌, ◌++◌, map, take, length, Ok, Err, IfErr}
-use Rattle.std.specs.declared.result.Result.{Result}
-use Rattle.std.proofs.Common.{◌≡◌, refl, ap, sym, subst, ◌∙◌, arith, append_assoc, ◌+◌, ◌-◌, get_or}
+use Rattle.std.proofs.Common.{◌≡◌, refl, ap, sym, subst, ◌∙◌, arith, append_assoc, ◌+◌, ◌-◌, get_or, ℕ, zero, suc, List, [], ◌∷◌, ◌++◌, map, take, length, Ok, Err, IfErr, Result}
 use Rattle.std.proofs.lemmas.List.{append-nil, map-append, length-append, length-map}
 use native.Mathlib.Nat.{sub-zero}
 use Rattle.duct_system.specs.EntryView.{EntryView, Close}

@@ -1,7 +1,5 @@
 -- What a guard holds after an entry, part by part, and that it never exceeds its policy's limits.
-use Rattle.std.specs.Prelude.{ℕ, Bool, List, [], ◌∷◌, ◌++◌, ◌+◌, ◌&&◌, true, false, length, nat_le, Ok, Err, OnOk, Some, if◌then◌else◌}
-use Rattle.std.specs.declared.result.Result.{Result}
-use Rattle.std.proofs.Common.{◌≡◌, refl, ap, sym, subst, ◌∙◌, arith, ◌-◌, ◌≤◌, length-append}
+use Rattle.std.proofs.Common.{◌≡◌, refl, ap, sym, subst, ◌∙◌, arith, ◌-◌, ◌≤◌, length-append, ℕ, Bool, List, [], ◌∷◌, ◌++◌, ◌+◌, ◌&&◌, true, false, length, nat_le, Ok, Err, OnOk, Some, if◌then◌else◌, Result}
 use Rattle.std.proofs.lemmas.Bool.{and_parts, leb-true}
 use Rattle.std.proofs.lemmas.List.{nil_from_length}
 use Rattle.std.proofs.Math.Bool.{and-true}

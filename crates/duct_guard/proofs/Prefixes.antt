@@ -1,7 +1,6 @@
 -- A test whether a list begins with another one, and a test of what is seen of a list.
-use Rattle.std.specs.Prelude.{ℕ, Bool, true, ◌||◌, List, [], ◌∷◌, ◌++◌, length, map, take, drop, bytes_eq}
 use Rattle.std.specs.List.{list_any, starts_with}
-use Rattle.std.proofs.Common.{◌≡◌, ap, refl, sym, ◌∙◌}
+use Rattle.std.proofs.Common.{◌≡◌, ap, refl, sym, ◌∙◌, ℕ, Bool, true, ◌||◌, List, [], ◌∷◌, ◌++◌, length, map, take, drop, bytes_eq}
 use Rattle.std.proofs.Math.Seq.{take-append_seam}
 use Rattle.std.proofs.lemmas.List.{take-append-drop}
 use Rattle.std.specs.Bool.{one_answer}

@@ -1,6 +1,5 @@
 -- A read or a run over a new guard: its journal is that of the whole call.
-use Rattle.std.proofs.Common.{ℕ, [], ◌≡◌, Ok, Err, IfOk, IfErr, inl, inr, arith, subst}
-use Rattle.std.specs.declared.result.Result.{Result}
+use Rattle.std.proofs.Common.{ℕ, [], ◌≡◌, Ok, Err, IfOk, IfErr, inl, inr, arith, subst, Result}
 use Rattle.duct_base.specs.Pool.{PoolView}
 use Rattle.duct_system.specs.Journal.{JournalView}
 use Rattle.duct_system.specs.declared.error.Error.{Error}

@@ -1,7 +1,6 @@
 -- What a guard asked of the system below, by the guard's own journal, and what contracts see of a
 -- guard.
-use Rattle.std.specs.Prelude.{ℕ, Bool, true, false, ◌&&◌, ◌≡◌, ◌≤◌, ◌+◌, ◌⊎◌, if◌then◌else◌, List, [], ◌∷◌, ◌++◌, length, map, nat_le, take, Ok, Err, Some, IfOk, IfErr}
-use Rattle.std.specs.declared.result.Result.{Result}
+use Rattle.std.specs.Prelude.{ℕ, Bool, true, false, ◌&&◌, ◌≡◌, ◌≤◌, ◌+◌, ◌⊎◌, if◌then◌else◌, List, [], ◌∷◌, ◌++◌, length, map, nat_le, take, Ok, Err, Some, IfOk, IfErr, Result}
 use Rattle.duct_system.specs.Child.{Answer}
 use Rattle.duct_system.specs.EntryView.{EntryView, Environment, OpenRead, Create, Duplicate, Parent, Canonicalize, Spawn, Close}
 use Rattle.duct_system.specs.Journal.{JournalView, GetsEnd, IsRefused}

@@ -1,6 +1,5 @@
 -- What the policies allow that come with the guard.
-use Rattle.std.specs.Prelude.{ℕ, Bool, true, false, ◌&&◌, ◌||◌, ◌==◌, not, min, List, [], ◌∷◌, length, bytes_eq, codes, Some, None}
-use Rattle.std.specs.declared.option.Option.{Option}
+use Rattle.std.specs.Prelude.{ℕ, Bool, true, false, ◌&&◌, ◌||◌, ◌==◌, not, min, List, [], ◌∷◌, length, bytes_eq, codes, Some, None, Option}
 use Rattle.std.specs.List.{list_all, list_any, starts_with}
 use Rattle.std.specs.Path.{path_components, parent_dir, slash}
 use Rattle.duct_system.specs.SpecView.{Vars}

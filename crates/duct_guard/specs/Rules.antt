@@ -1,8 +1,7 @@
 -- What a policy is asked about, as contracts see it, what it allows, and what that means for the
 -- entries of a journal.
-use Rattle.std.specs.Prelude.{ℕ, Bool, true, false, ◌≡◌, ◌||◌, List, Some, None}
+use Rattle.std.specs.Prelude.{ℕ, Bool, true, false, ◌≡◌, ◌||◌, List, Some, None, Option}
 use Rattle.std.specs.List.{list_all}
-use Rattle.std.specs.declared.option.Option.{Option}
 use Rattle.duct_system.specs.EntryView.{EntryView, OpenRead, Create, Duplicate, Parent, Canonicalize, Spawn}
 use Rattle.duct_system.specs.SpecView.{SpecView}
 use Rattle.duct_system.specs.Trace.{fault_of}

@@ -1,8 +1,7 @@
 -- The line of a command that is started, and what a trace gets of it.
-use Rattle.std.specs.Prelude.{◌≡◌, ℕ, List, [], ◌∷◌, ◌++◌, None, Some, codes}
+use Rattle.std.specs.Prelude.{◌≡◌, ℕ, List, [], ◌∷◌, ◌++◌, None, Some, codes, Option}
 use Rattle.std.specs.Io.KnownBytes.{Appends, Keeps}
 use Rattle.std.specs.declared.io.ErrorKind.{ErrorKind}
-use Rattle.std.specs.declared.option.Option.{Option}
 use Rattle.duct_system.specs.SpecView.{SpecView}
 use Rattle.duct_words.specs.Quote.{quote_of}
 use Rattle.duct_base.specs.Transfer.{AppendsFront}

@@ -1,9 +1,6 @@
 -- What a call promises that makes a guard, reads or runs an expression over it, and takes it apart.
-use Rattle.std.specs.Prelude.{ℕ, List, [], ◌≡◌, length, Ok, Err}
+use Rattle.std.specs.Prelude.{ℕ, List, [], ◌≡◌, length, Ok, Err, Option, Result, String}
 use Rattle.std.specs.declared.alloc.Global.{Global}
-use Rattle.std.specs.declared.option.Option.{Option}
-use Rattle.std.specs.declared.result.Result.{Result}
-use Rattle.std.specs.declared.string.String.{String}
 use Rattle.duct_base.specs.Pool.{PoolView}
 use Rattle.duct_system.specs.declared.error.Error.{Error}
 use Rattle.duct_system.specs.declared.system.Child as child_trait

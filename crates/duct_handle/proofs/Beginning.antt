@@ -1,8 +1,5 @@
 -- The numbers of what runs after a start are those in the journal.
-use Rattle.std.specs.Prelude.{ℕ, Bool, List, [], ◌∷◌, ◌++◌, is_some, map, Some, None}
-use Rattle.std.specs.Option.{option_map, option_to_list}
-use Rattle.std.specs.declared.option.Option.{Option}
-use Rattle.std.proofs.Common.{◌≡◌, refl, ap, ◌∙◌}
+use Rattle.std.proofs.Common.{◌≡◌, refl, ap, ◌∙◌, ℕ, Bool, List, [], ◌∷◌, ◌++◌, is_some, map, Some, None, option_map, option_to_list, Option}
 use Rattle.duct_system.specs.Child.{ChildView}
 use Rattle.duct_system.specs.EntryView.{EntryView}
 use Rattle.duct_system.specs.Job.{JobView, unpolled_job}

@@ -1,10 +1,6 @@
 -- What a wait returns, by what its children and workers store.
-use Rattle.std.proofs.Common.{◌≡◌, ◌⊎◌, inl, inr, map, refl, subst, Ok, Err, Some}
-use Rattle.std.specs.Option.{option_map}
+use Rattle.std.proofs.Common.{◌≡◌, ◌⊎◌, inl, inr, map, refl, subst, Ok, Err, Some, option_map, IfErr, IfOk, IsOkAnd, OnErr, Result, Global}
 use Rattle.std.specs.Arc.{arc_value}
-use Rattle.std.specs.Result.{IfErr, IfOk, IsOkAnd, OnErr}
-use Rattle.std.specs.declared.alloc.Global.{Global}
-use Rattle.std.specs.declared.result.Result.{Result}
 use Rattle.std.specs.declared.sync.Arc.{Arc}
 use Rattle.duct_base.specs.Pool.{PoolView}
 use Rattle.duct_system.specs.declared.error.Error.{Error}

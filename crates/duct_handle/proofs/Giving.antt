@@ -1,7 +1,5 @@
 -- Which children a pool was given, by the numbers that a handle keeps.
-use Rattle.std.specs.Prelude.{IfErr, OnErr, ◌⊎◌, Ok, Err}
-use Rattle.std.specs.declared.result.Result.{Result}
-use Rattle.std.proofs.Common.{◌≡◌, ◌∙◌, ap, inl, inr}
+use Rattle.std.proofs.Common.{◌≡◌, ◌∙◌, ap, inl, inr, IfErr, OnErr, ◌⊎◌, Ok, Err, Result}
 use Rattle.duct_system.specs.declared.error.Error.{Error}
 use Rattle.duct_system.specs.declared.error.Error.TheVariants as error
 use Rattle.duct_system.specs.declared.system.Kind.TheVariants.{Other}

@@ -2,9 +2,7 @@
 -- may return.
 use Rattle.std.specs.Prelude.{ℕ, List, [], ◌∷◌, All, IfSome, MatchOption, map, Ok, Some, None}
 use Rattle.std.specs.List.{AllZip}
-use Rattle.std.specs.declared.option.Option.{Option}
-use Rattle.std.specs.declared.result.Result.{Result}
-use Rattle.std.proofs.Common.{◌≡◌, subst, inl, inr}
+use Rattle.std.proofs.Common.{◌≡◌, subst, inl, inr, Option, Result}
 use Rattle.std.proofs.lemmas.List.Elements.{All-head, All-tail}
 use mathlib.Core.Logic.{∥∥₁_map}
 use Rattle.duct_system.specs.Child.{ChildView, Obeyed, OrdersChild}

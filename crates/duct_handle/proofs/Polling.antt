@@ -1,10 +1,7 @@
 -- What a poll concluded says which answer is published.
-use Rattle.std.specs.Prelude.{ℕ, string_bytes, Ok, Err, Some}
 use Rattle.std.specs.Arc.{arc_value}
-use Rattle.std.specs.declared.alloc.Global.{Global}
-use Rattle.std.specs.declared.string.String.{String}
 use Rattle.std.specs.declared.sync.Arc.{Arc}
-use Rattle.std.proofs.Common.{◌≡◌, sym, subst, inl, inr}
+use Rattle.std.proofs.Common.{◌≡◌, sym, subst, inl, inr, ℕ, string_bytes, Ok, Err, Some, String, Global}
 use Rattle.duct_system.specs.Child.{Answer}
 use Rattle.duct_system.specs.declared.error.Error.TheVariants as error
 use Rattle.duct_system.specs.declared.system.Output.{Output}

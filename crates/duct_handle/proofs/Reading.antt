@@ -1,13 +1,6 @@
 -- What is returned of a read that was waited for.
-use Rattle.std.proofs.Common.{◌≡◌, inl, inr, List, ℕ, subst, Ok, Err, Some}
-use Rattle.std.specs.Option.{IfSome}
-use Rattle.std.specs.Result.{IfErr}
-use Rattle.std.specs.Str.{IsUtf8}
-use Rattle.std.specs.declared.alloc.Global.{Global}
+use Rattle.std.proofs.Common.{◌≡◌, inl, inr, List, ℕ, subst, Ok, Err, Some, IfSome, IfErr, IsUtf8, Option, Result, String, Global}
 use Rattle.std.specs.declared.io.ErrorKind.{ErrorKind}
-use Rattle.std.specs.declared.option.Option.{Option}
-use Rattle.std.specs.declared.result.Result.{Result}
-use Rattle.std.specs.declared.string.String.{String}
 use Rattle.std.specs.declared.sync.Arc.{Arc}
 use Rattle.duct_base.specs.Pool.{PoolView}
 use Rattle.duct_system.specs.declared.error.Error.{Error}

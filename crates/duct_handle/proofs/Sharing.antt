@@ -1,8 +1,5 @@
 -- What is published was concluded, and one more owner of it has the same answer.
-use Rattle.std.specs.Prelude.{ℕ, IfSome, Ok, Err, Some, None}
-use Rattle.std.specs.Option.{option_map}
-use Rattle.std.specs.declared.option.Option.{Option}
-use Rattle.std.proofs.Common.{◌≡◌, ap, refl, subst, sym, ◌∙◌}
+use Rattle.std.proofs.Common.{◌≡◌, ap, refl, subst, sym, ◌∙◌, ℕ, IfSome, Ok, Err, Some, None, option_map, Option}
 use mathlib.Core.Logic.{∥∥₁_map}
 use Rattle.duct_system.specs.Child as child
 use Rattle.duct_system.specs.declared.system.Said.{Said}

@@ -1,6 +1,5 @@
 -- A handle and a token of it as contracts see them.
-use Rattle.std.specs.Prelude.{ℕ, List, string_bytes}
-use Rattle.std.specs.declared.option.Option.{Option}
+use Rattle.std.specs.Prelude.{ℕ, List, string_bytes, Option}
 use Rattle.duct_status.specs.declared.status.Shape.{Shape}
 use Rattle.duct_running.specs.NumbersView.{NumbersView}
 use Rattle.duct_handle.specs.declared.published.Answer.{Answer}

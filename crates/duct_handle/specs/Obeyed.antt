@@ -1,7 +1,6 @@
 -- An order to all commands of a handle, and what it returns.
-use Rattle.std.specs.Prelude.{ℕ, true, false, ◌≡◌, ◌⊎◌, List, Ok, Err, Some}
+use Rattle.std.specs.Prelude.{ℕ, true, false, ◌≡◌, ◌⊎◌, List, Ok, Err, Some, Result}
 use Rattle.std.specs.List.{AllZip}
-use Rattle.std.specs.declared.result.Result.{Result}
 use Rattle.duct_system.specs.Child.{Obeyed}
 use Rattle.duct_system.specs.declared.error.Error.{Error}
 use Rattle.duct_system.specs.declared.error.Error.TheVariants as error

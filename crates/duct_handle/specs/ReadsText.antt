@@ -1,10 +1,7 @@
 -- What is returned of all bytes of a start's reader.
-use Rattle.std.specs.Prelude.{ℕ, ◌≡◌, ◌⊎◌, List, IfSome, string_bytes, Bool, if◌then◌else◌, ◌==◌, ◌||◌, [], ◌∷◌}
-use Rattle.std.specs.Str.{IsUtf8}
+use Rattle.std.specs.Prelude.{ℕ, ◌≡◌, ◌⊎◌, List, IfSome, string_bytes, Bool, if◌then◌else◌, ◌==◌, ◌||◌, [], ◌∷◌, IsUtf8, Option, String}
 use Rattle.std.specs.declared.alloc.Global.{Global}
 use Rattle.std.specs.declared.io.ErrorKind.{ErrorKind}
-use Rattle.std.specs.declared.option.Option.{Option}
-use Rattle.std.specs.declared.string.String.{String}
 use Rattle.duct_base.specs.Pool.{PoolView}
 use Rattle.duct_system.specs.declared.error.Error.{Error}
 use Rattle.duct_system.specs.declared.error.Error.TheVariants as error

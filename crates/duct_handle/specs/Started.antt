@@ -1,6 +1,5 @@
 -- What a handle keeps of the journal of its start.
-use Rattle.std.specs.Prelude.{ℕ, Bool, List, ◌++◌, ◌≡◌, is_some, map}
-use Rattle.std.specs.Option.{option_to_list}
+use Rattle.std.specs.Prelude.{ℕ, Bool, List, ◌++◌, ◌≡◌, is_some, map, option_to_list}
 use Rattle.duct_system.specs.Child.{ChildView}
 use Rattle.duct_system.specs.EntryView.{EntryView}
 use Rattle.duct_system.specs.Started.{children_in, feeds_in, drains_in}

@@ -1,7 +1,6 @@
 -- What a wait returns, and what its token knows then.
-use Rattle.std.specs.Prelude.{◌≡◌, ◌⊎◌, IfSome, IsSomeAnd, Ok, Err, Some, None, ◌+◌}
+use Rattle.std.specs.Prelude.{◌≡◌, ◌⊎◌, IfSome, IsSomeAnd, Ok, Err, Some, None, ◌+◌, Result}
 use Rattle.std.specs.declared.alloc.Global.{Global}
-use Rattle.std.specs.declared.result.Result.{Result}
 use Rattle.std.specs.declared.sync.Arc.{Arc}
 use Rattle.duct_system.specs.declared.error.Error.{Error}
 use Rattle.duct_system.specs.declared.error.Error.TheVariants as error

@@ -69,8 +69,7 @@ pub struct Seen<S: System> {
 impl<S: System> Model for Seen<S> {
     ghost use Rattle.std.specs.Arc.{arc_value};
     ghost use Rattle.std.specs.Coded.{codes};
-    ghost use Rattle.std.specs.Prelude.{◌≡◌, is_some};
-    ghost use Rattle.std.specs.Option.{option_map};
+    ghost use Rattle.std.specs.Prelude.{◌≡◌, is_some, option_map};
     ghost use Rattle.duct_status.specs.contracts.status.Shape as shape;
     ghost use Rattle.duct_running.specs.NumbersView.{numbers_view};
     ghost use Rattle.duct_handle.specs.contracts.published.Answer as answer;

@@ -1,6 +1,5 @@
 //! What Unix adds to a handle: signals by their numbers.
-ghost use Rattle.std.specs.Prelude.{ℤ};
-ghost use Rattle.std.specs.declared.result.Result.{Result};
+ghost use Rattle.std.specs.Prelude.{ℤ, Result};
 ghost use Rattle.duct_system.specs.declared.error.Error.{Error};
 
 use crate::handle::Handle;

@@ -1,8 +1,5 @@
 -- How an entry of the parent's environment is split.
-use Rattle.std.specs.Prelude.{ℕ, List, [], ◌∷◌, ◌++◌, Some, None, if◌then◌else◌}
-use Rattle.std.specs.Option.{option_map}
-use Rattle.std.specs.declared.option.Option.{Option}
-use Rattle.std.proofs.Common.{◌≡◌, ◌≢◌, ◌<◌, ◌∙◌, suc, refl, ap, length, get_or, arith}
+use Rattle.std.proofs.Common.{◌≡◌, ◌≢◌, ◌<◌, ◌∙◌, suc, refl, ap, length, get_or, arith, ℕ, List, [], ◌∷◌, ◌++◌, Some, None, if◌then◌else◌, option_map, Option}
 use Rattle.std.proofs.lemmas.Bool.{ne_eqb}
 use Rattle.duct_host.specs.Entries.{with_front, parts_at_sign, variable_of}
 

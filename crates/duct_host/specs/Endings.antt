@@ -1,10 +1,7 @@
 -- How a child ended, by what std says of its status.
-use Rattle.std.specs.Prelude.{◌≡◌, ℤ, pos, negsuc, Bool, true, false, ◌&&◌, nat_lt, Some, None, Ok, Err}
-use Rattle.std.specs.Option.{option_map}
+use Rattle.std.specs.Prelude.{◌≡◌, ℤ, pos, negsuc, Bool, true, false, ◌&&◌, nat_lt, Some, None, Ok, Err, option_map, Option, Result}
 use Rattle.std.specs.Process.{exit_code, exit_signal}
-use Rattle.std.specs.declared.option.Option.{Option}
 use Rattle.std.specs.declared.process.ExitStatus as machine
-use Rattle.std.specs.declared.result.Result.{Result}
 use Rattle.duct_system.specs.Child.{Answer}
 use Rattle.duct_system.specs.declared.system.ExitStatus.{ExitStatus}
 use Rattle.duct_system.specs.declared.system.ExitStatus.TheVariants.{Code, Signal}

@@ -1,7 +1,5 @@
 -- What an entry of the parent's environment means: a variable's name and value, separated by a `=`.
-use Rattle.std.specs.Prelude.{◌≡◌, ℕ, List, [], ◌∷◌, ◌++◌, Some, None, ◌==◌, if◌then◌else◌, IsUtf8, option_to_list}
-use Rattle.std.specs.Option.{option_map}
-use Rattle.std.specs.declared.option.Option.{Option}
+use Rattle.std.specs.Prelude.{◌≡◌, ℕ, List, [], ◌∷◌, ◌++◌, Some, None, ◌==◌, if◌then◌else◌, IsUtf8, option_to_list, option_map, Option}
 use Rattle.duct_system.specs.SpecView.{Vars}
 
 -- a name with some bytes before it, and its value

@@ -1,9 +1,7 @@
 -- The environment of a command that is to be started.
-use Rattle.std.specs.Prelude.{◌≡◌, ℕ, List, true, fold, bytes_eq, Some, None, if◌then◌else◌}
-use Rattle.std.specs.Option.{option_map}
+use Rattle.std.specs.Prelude.{◌≡◌, ℕ, List, true, fold, bytes_eq, Some, None, if◌then◌else◌, option_map, Option}
 use Rattle.std.specs.Process.{command_var, clears_env, SameOtherVars}
 use Rattle.std.specs.declared.alloc.Global.{Global}
-use Rattle.std.specs.declared.option.Option.{Option}
 use Rattle.std.specs.declared.process.Command.{Command}
 use Rattle.duct_system.specs.SpecView.{Vars}
 

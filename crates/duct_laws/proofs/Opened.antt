@@ -1,8 +1,6 @@
 -- A tree only adds to the end of a plan, and the request that a node makes before its inner
 -- expression stays in the plan, whatever an inner node overrides.
-use Rattle.std.proofs.Common.{◌≡◌, ℕ, List, [], ◌∷◌, ◌++◌, length, refl, ap, sym, ◌∙◌, append_assoc}
-use Rattle.std.specs.Prelude.{Some, None, is_some, if◌then◌else◌}
-use Rattle.std.specs.declared.option.Option.{Option}
+use Rattle.std.proofs.Common.{◌≡◌, ℕ, List, [], ◌∷◌, ◌++◌, length, refl, ap, sym, ◌∙◌, append_assoc, Some, None, is_some, if◌then◌else◌, Option}
 use Rattle.std.proofs.lemmas.List.{append-nil}
 use Rattle.duct_status.specs.PerSide.{at_side}
 use Rattle.duct_start.specs.Lookup.{surroundings_on, Path, left_of, right_of, within}

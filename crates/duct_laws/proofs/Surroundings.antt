@@ -1,8 +1,6 @@
 -- What a node overrides of the folder and of the variables that are set outside it.
-use Rattle.std.proofs.Common.{◌≡◌, ℕ, List, [], ◌∷◌, ◌++◌, refl, ap, ◌∙◌}
-use Rattle.std.specs.Prelude.{Bool, true, false, cond, Some, None}
+use Rattle.std.proofs.Common.{◌≡◌, ℕ, List, [], ◌∷◌, ◌++◌, refl, ap, ◌∙◌, Bool, true, false, cond, Some, None, Option}
 use Rattle.std.specs.Option.{option_or, option_map}
-use Rattle.std.specs.declared.option.Option.{Option}
 use Rattle.duct_system.specs.Name.{is_same_name}
 use Rattle.duct_system.specs.SpecView.{Vars, spelled}
 use Rattle.duct_system.proofs.Variables.{name_equiv, same_at}

@@ -1,6 +1,5 @@
 -- Which stream a node redirects.
-use Rattle.std.specs.Prelude.{Bool, true, false, Some, None}
-use Rattle.std.specs.declared.option.Option.{Option}
+use Rattle.std.specs.Prelude.{Bool, true, false, Some, None, Option}
 use Rattle.duct_system.specs.declared.spec.Stream.{Stream}
 use Rattle.duct_system.specs.declared.spec.Stream.TheVariants.{In, Out, Err}
 use Rattle.duct_system.specs.declared.system.Side.{Side}

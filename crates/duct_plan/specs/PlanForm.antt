@@ -1,6 +1,5 @@
 -- The text of a plan: a line for each request, with its place.
-use Rattle.std.specs.Prelude.{ℕ, List, [], ◌∷◌, ◌+◌, codes, drop, length, if◌then◌else◌}
-use Rattle.std.specs.declared.option.Option.{Option}
+use Rattle.std.specs.Prelude.{ℕ, List, [], ◌∷◌, ◌+◌, codes, drop, length, if◌then◌else◌, Option}
 use Rattle.duct_system.specs.declared.spec.Stream.{Stream}
 use Rattle.duct_system.specs.declared.spec.Stream.TheVariants.{In, Out, Err}
 use Rattle.duct_status.specs.Form.{Form, plain, quote, before, joined, each_form, of_text, of_number, text_of}

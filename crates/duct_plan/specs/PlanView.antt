@@ -1,6 +1,5 @@
 -- A plan of the code as contracts see it.
-use Rattle.std.specs.Prelude.{map, string_bytes}
-use Rattle.std.specs.Option.{option_copied}
+use Rattle.std.specs.Prelude.{map, string_bytes, option_copied}
 use Rattle.duct_system.specs.SpecView.{var_view}
 use Rattle.duct_start.specs.Plan as plan
 use Rattle.duct_start.specs.Step as request

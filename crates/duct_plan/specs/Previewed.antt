@@ -1,7 +1,5 @@
 -- What is printed of a line of words before anything runs.
-use Rattle.std.specs.Prelude.{◌≡◌, ℕ, List, [], ◌∷◌, ◌++◌, Bool, true, false, IfSome, IsOk, codes, if◌then◌else◌}
-use Rattle.std.specs.Str.{bytes_eq}
-use Rattle.std.specs.declared.result.Result.{Result}
+use Rattle.std.specs.Prelude.{◌≡◌, ℕ, List, [], ◌∷◌, ◌++◌, Bool, true, false, IfSome, IsOk, codes, if◌then◌else◌, bytes_eq, Result}
 use Rattle.duct_start.specs.Plan.{plan_of_reader}
 use Rattle.duct_start.specs.TreeView.{TreeView}
 use Rattle.duct_program.specs.Answered.{Means, usage_text}

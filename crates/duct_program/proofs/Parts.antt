@@ -1,6 +1,5 @@
 -- The arguments of a command, read one after the other.
-use Rattle.std.proofs.Common.{ℕ, List, ◌++◌, Ok}
-use Rattle.std.specs.declared.result.Result.{Result}
+use Rattle.std.proofs.Common.{ℕ, List, ◌++◌, Ok, Result}
 use Rattle.duct_program.specs.Line.{CommandView, RedirectionView}
 use Rattle.duct_program.specs.Parsed.{◌>>=◌}
 use Rattle.duct_program.specs.declared.usage.Usage.{Usage}

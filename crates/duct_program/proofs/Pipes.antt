@@ -1,6 +1,5 @@
 -- The pieces that are left, and redirections around a command.
-use Rattle.std.proofs.Common.{◌≡◌, ℕ, List, [], ◌∷◌, ◌++◌, ap, length, map, refl}
-use Rattle.std.specs.declared.option.Option.{Option}
+use Rattle.std.proofs.Common.{◌≡◌, ℕ, List, [], ◌∷◌, ◌++◌, ap, length, map, refl, Option}
 use Rattle.duct_start.specs.TreeView.{TreeView, around}
 use Rattle.duct_program.specs.Line.{redirection_view, further, redirected_tree, redirects}
 use Rattle.duct_program.specs.declared.command.Redirection.{Redirection}

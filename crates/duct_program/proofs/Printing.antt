@@ -1,9 +1,6 @@
 -- What the status of the program says of what was printed.
-use Rattle.std.proofs.Common.{◌≡◌, ℕ, List, inl, inr, refl, subst}
-use Rattle.std.specs.Prelude.{IfOk, Ok, Err}
+use Rattle.std.proofs.Common.{◌≡◌, ℕ, List, inl, inr, refl, subst, IfOk, Ok, Err, Option, Result}
 use Rattle.std.specs.Result.{result_unwrap_or}
-use Rattle.std.specs.declared.option.Option.{Option}
-use Rattle.std.specs.declared.result.Result.{Result}
 use Rattle.duct_program.specs.Answered.{AppendsFailure, PrintsFailure, status_of}
 use Rattle.duct_program.specs.declared.failure.Failure.{Failure}
 use Rattle.duct_program.specs.declared.failure.Failure.TheVariants.{Usage, Error}

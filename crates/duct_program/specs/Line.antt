@@ -1,10 +1,6 @@
 -- What the program's arguments mean: their options, their commands, and the expression of all.
-use Rattle.std.specs.Prelude.{ℕ, List, [], ◌∷◌, Bool, true, false, Some, None, Ok, Err, if◌then◌else◌, codes, map}
+use Rattle.std.specs.Prelude.{ℕ, List, [], ◌∷◌, Bool, true, false, Some, None, Ok, Err, if◌then◌else◌, codes, map, option_map, bytes_eq, Option, Result}
 use Rattle.std.specs.List.{slice_split}
-use Rattle.std.specs.Str.{bytes_eq}
-use Rattle.std.specs.declared.option.Option.{Option}
-use Rattle.std.specs.declared.result.Result.{Result}
-use Rattle.std.specs.Option.{option_map}
 use Rattle.duct_system.specs.declared.spec.Stream.TheVariants as streams
 use Rattle.duct_system.specs.SpecView.{texts_of}
 use Rattle.duct_system.specs.declared.spec.Stream.{Stream}

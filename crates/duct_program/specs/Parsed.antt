@@ -1,6 +1,5 @@
 -- What reading arguments returns.
-use Rattle.std.specs.Prelude.{◌≡◌, Err, Ok}
-use Rattle.std.specs.declared.result.Result.{Result}
+use Rattle.std.specs.Prelude.{◌≡◌, Err, Ok, Result}
 use Rattle.duct_program.specs.declared.usage.Usage.{Usage}
 use Rattle.duct_program.specs.declared.usage.Usage.TheVariants.{Memory}
 

@@ -1,6 +1,5 @@
 //! The expression that the program's arguments mean.
-ghost use Rattle.std.specs.Option.{option_map};
-ghost use Rattle.std.specs.Prelude.{◌≡◌, ◌∷◌, map, position, Ok, string_bytes, IfOk, IsOkUnless};
+ghost use Rattle.std.specs.Prelude.{◌≡◌, ◌∷◌, map, position, Ok, string_bytes, IfOk, IsOkUnless, option_map};
 ghost use Rattle.duct_start.specs.TreeView.{around};
 ghost use Rattle.duct.specs.TreeView.{tree_view};
 ghost use Rattle.duct_program.specs.Line.{command_view, redirection_view, further, is_bar, meant, piece_tree, pieces, pipeline_of, redirected_tree, redirects, with_options, worded_tree, options_view};

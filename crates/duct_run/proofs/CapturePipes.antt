@@ -1,7 +1,5 @@
 -- The two capture pipes once one of them is another one.
-use Rattle.std.proofs.Common.{◌≡◌, ℕ, ◌+◌, length, arith, length-append}
-use Rattle.std.specs.Prelude.{None}
-use Rattle.std.specs.declared.option.Option.{Option}
+use Rattle.std.proofs.Common.{◌≡◌, ℕ, ◌+◌, length, arith, length-append, None, Option}
 use Rattle.duct_system.specs.Ledger.{count_of}
 use Rattle.duct_system.specs.declared.system.Side.{Side}
 use Rattle.duct_system.specs.declared.system.Side.TheVariants.{Out, Err}

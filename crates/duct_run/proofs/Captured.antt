@@ -1,9 +1,7 @@
 -- The capture pipes: each is opened once, and at the end its write end is closed and its read end
 -- is passed on.
-use Rattle.std.proofs.Common.{◌≡◌, ◌≢◌, ℕ, ◌≤◌, List, [], ◌∷◌, ◌++◌, length, refl, ap, sym, ◌∙◌, arith, subst, length-append, inl, inr}
+use Rattle.std.proofs.Common.{◌≡◌, ◌≢◌, ℕ, ◌≤◌, List, [], ◌∷◌, ◌++◌, length, refl, ap, sym, ◌∙◌, arith, subst, length-append, inl, inr, Some, None, Ok, Err, is_some, true, false, if◌then◌else◌, unwrap_or, Option}
 use Rattle.std.proofs.lemmas.List.{append-nil}
-use Rattle.std.specs.Prelude.{Some, None, Ok, Err, is_some, true, false, if◌then◌else◌, unwrap_or}
-use Rattle.std.specs.declared.option.Option.{Option}
 use Rattle.duct_system.specs.EntryView.{EntryView, Pipe, Drain, Close}
 use Rattle.duct_system.specs.Journal.{JournalView, GetsEnds, GivesEnds, IsRefused}
 use Rattle.duct_system.specs.Ledger.{count_of}

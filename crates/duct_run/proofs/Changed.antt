@@ -1,13 +1,11 @@
 -- Variables that are made of pairs, inserted or removed, and what a look-up finds in them.
-use Rattle.std.specs.Prelude.{Bool, true, false, ℕ, List, [], ◌∷◌, ◌++◌, cond, map, string_bytes, Some, None}
 use Rattle.std.specs.declared.cmp.Ordering.TheVariants.{Less}
-use Rattle.std.specs.declared.string.String.{String}
 use Rattle.std.specs.BTreeMap.{insert_entry, is_at}
 use Rattle.std.specs.List.{AllByRecursion, AllZip}
 use Rattle.std.specs.List.Sorted.{IsStrictlySortedBy}
 use Rattle.std.specs.Map.{keys_of, remove_entry}
 use Rattle.std.specs.Ordering.{is_eq}
-use Rattle.std.proofs.Common.{Option, ◌≡◌, refl, ap, sym, ◌∙◌}
+use Rattle.std.proofs.Common.{Option, ◌≡◌, refl, ap, sym, ◌∙◌, Bool, true, false, ℕ, List, [], ◌∷◌, ◌++◌, cond, map, string_bytes, Some, None, String}
 use Rattle.std.proofs.lemmas.List.{map-append}
 use Rattle.std.proofs.lemmas.Map.{NonePasses}
 use Rattle.duct_system.specs.Name.{is_same_name, name_cmp}

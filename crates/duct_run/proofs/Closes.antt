@@ -1,7 +1,6 @@
 -- Ends that are closed one after the other.
-use Rattle.std.proofs.Common.{ℕ, List, [], ◌∷◌, ◌++◌, ap, sym, ◌∙◌, arith, append_assoc, length-append}
+use Rattle.std.proofs.Common.{ℕ, List, [], ◌∷◌, ◌++◌, ap, sym, ◌∙◌, arith, append_assoc, length-append, map}
 use Rattle.std.proofs.lemmas.List.{append-nil, map-append}
-use Rattle.std.specs.Prelude.{map}
 use Rattle.duct_system.specs.EntryView.{EntryView, Close}
 use Rattle.duct_system.specs.Journal.{JournalView, GivesEnds}
 use Rattle.duct_run.specs.GivesUp.{Closes}

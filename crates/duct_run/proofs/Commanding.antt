@@ -1,6 +1,5 @@
 -- A command as a whole: its canonical path, its hooks and its spawn.
-use Rattle.std.proofs.Common.{◌≡◌, ℕ, ◌+◌, ◌-◌, ◌≤◌, List, [], ◌∷◌, ◌++◌, length, refl, ap, sym, ◌∙◌, arith, subst, append_assoc, length-append}
-use Rattle.std.specs.Prelude.{Bool, true, false, Err, Ok, Some, if◌then◌else◌, slice_get}
+use Rattle.std.proofs.Common.{◌≡◌, ℕ, ◌+◌, ◌-◌, ◌≤◌, List, [], ◌∷◌, ◌++◌, length, refl, ap, sym, ◌∙◌, arith, subst, append_assoc, length-append, Bool, true, false, Err, Ok, Some, if◌then◌else◌, slice_get}
 use Rattle.duct_system.specs.EntryView.{EntryView, Canonicalize, Spawn}
 use Rattle.duct_system.specs.Journal.{JournalView, AddsNothing, Asks, GivesEnds, IsRefused}
 use Rattle.duct_system.specs.Ledger.{spent_by}

@@ -1,9 +1,7 @@
 -- A run starts what its tree contains: a child for each command, and a feed worker for each input.
 -- A capture pipe is open if a node of the tree opens it.
-use Rattle.std.proofs.Common.{◌≡◌, ℕ, ◌+◌, List, [], ◌∷◌, ◌++◌, length, refl, ap, sym, ◌∙◌, arith}
+use Rattle.std.proofs.Common.{◌≡◌, ℕ, ◌+◌, List, [], ◌∷◌, ◌++◌, length, refl, ap, sym, ◌∙◌, arith, Bool, true, false, Some, None, Ok, is_some, if◌then◌else◌, ◌||◌, map, Option}
 use Rattle.std.specs.Prelude as std
-use Rattle.std.specs.Prelude.{Bool, true, false, Some, None, Ok, is_some, if◌then◌else◌, ◌||◌, map}
-use Rattle.std.specs.declared.option.Option.{Option}
 use Rattle.std.proofs.lemmas.List.{map-append}
 use Rattle.std.proofs.Math.Bool.{or_assoc, or-false}
 use Rattle.duct_system.specs.EntryView.{EntryView, Spawn, Feed}

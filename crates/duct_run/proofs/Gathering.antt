@@ -1,11 +1,8 @@
 -- Changes of variables: collected with the nearest first, then applied with the furthest first.
-use Rattle.std.specs.Prelude.{ℕ, List, [], ◌∷◌, ◌++◌, map, is_some, true, Some, None}
 use Rattle.std.specs.Option.{option_or}
-use Rattle.std.specs.declared.option.Option.{Option}
 use Rattle.std.specs.Borrow.{Bor}
 use Rattle.std.specs.BTreeMap.{BTreeMap}
-use Rattle.std.specs.declared.string.String.{String}
-use Rattle.std.proofs.Common.{Global, ◌≡◌, refl, ap, sym, ◌∙◌, append_assoc}
+use Rattle.std.proofs.Common.{Global, ◌≡◌, refl, ap, sym, ◌∙◌, append_assoc, ℕ, List, [], ◌∷◌, ◌++◌, map, is_some, true, Some, None, Option, String}
 use Rattle.std.proofs.lemmas.List.{append-nil, map-append}
 use Rattle.duct_system.specs.SpecView.{Vars, said_of, var_view, variable_in}
 use Rattle.duct_start.specs.Surroundings.{VariableChange, Replaces, variable}

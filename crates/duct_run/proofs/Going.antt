@@ -1,10 +1,7 @@
 -- Each kind of action succeeds or fails.
-use Rattle.std.proofs.Common.{◌≡◌, ◌≢◌, ℕ, ◌+◌, ◌<◌, ◌≤◌, List, [], ◌∷◌, ◌++◌, length, refl, ap, sym, ◌∙◌, arith, append_assoc, length-append, subst, inl, inr, suc, zero}
+use Rattle.std.proofs.Common.{◌≡◌, ◌≢◌, ℕ, ◌+◌, ◌<◌, ◌≤◌, List, [], ◌∷◌, ◌++◌, length, refl, ap, sym, ◌∙◌, arith, append_assoc, length-append, subst, inl, inr, suc, zero, map, Some, None, Ok, Err, is_some, reverse, slice_get, slice_index, true, drop, unwrap_or, Option, Result}
 use Rattle.std.proofs.lemmas.List.{append-nil}
 use Rattle.std.proofs.lemmas.Bool.{cases_lt}
-use Rattle.std.specs.Prelude.{map, Some, None, Ok, Err, is_some, reverse, slice_get, slice_index, true, drop, unwrap_or}
-use Rattle.std.specs.declared.option.Option.{Option}
-use Rattle.std.specs.declared.result.Result.{Result}
 use Rattle.duct_system.specs.EntryView.{EntryView, Pipe, OpenRead, Create, Duplicate, Parent, Feed, Close}
 use Rattle.duct_system.specs.Journal.{JournalView, Adds, AddsNothing, Asks, GetsEnd, GetsEnds, GivesEnds, IsRefused}
 use Rattle.duct_system.specs.Ledger.{opened_by, spent_by, count_of}

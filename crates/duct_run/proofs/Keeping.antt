@@ -1,7 +1,5 @@
 -- A plan that grows keeps the places of its open capture pipes.
-use Rattle.std.proofs.Common.{◌≡◌, ℕ, List, length, refl, ap, ◌∙◌}
-use Rattle.std.specs.Prelude.{Bool, true, false, Some, None, is_some, if◌then◌else◌, unwrap_or}
-use Rattle.std.specs.declared.option.Option.{Option}
+use Rattle.std.proofs.Common.{◌≡◌, ℕ, List, length, refl, ap, ◌∙◌, Bool, true, false, Some, None, is_some, if◌then◌else◌, unwrap_or, Option}
 use Rattle.duct_system.specs.declared.system.Side.{Side}
 use Rattle.duct_system.specs.declared.system.Side.TheVariants.{Out, Err}
 use Rattle.duct_status.specs.PerSide.{at_side, with_side}

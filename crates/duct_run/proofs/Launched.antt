@@ -1,8 +1,6 @@
 -- A run of the actions of a whole tree is its start, of either kind.
-use Rattle.std.proofs.Common.{◌≡◌, ℕ, ◌+◌, ◌*◌, List, [], ◌++◌, ap, refl, sym, ◌∙◌, arith, subst}
+use Rattle.std.proofs.Common.{◌≡◌, ℕ, ◌+◌, ◌*◌, List, [], ◌++◌, ap, refl, sym, ◌∙◌, arith, subst, false, None, Some, is_some, true, Option}
 use Rattle.std.proofs.lemmas.List.{nil_from_length}
-use Rattle.std.specs.declared.option.Option.{Option}
-use Rattle.std.specs.Prelude.{false, None, Some, is_some, true}
 use Rattle.duct_system.specs.Journal.{JournalView}
 use Rattle.duct_system.specs.declared.error.Error.{Error}
 use Rattle.duct_system.specs.declared.error.Error.TheVariants.{Memory}

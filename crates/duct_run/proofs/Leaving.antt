@@ -1,10 +1,8 @@
 -- How a start changes a pool: sweeps one after the other, and then the children that it started.
-use Rattle.std.proofs.Common.{◌≡◌, ℕ, ◌+◌, ◌^◌, ◌<◌, ◌≤◌, List, [], ◌∷◌, ◌++◌, length, refl, ap, sym, ◌∙◌, arith, subst, inl, inr}
+use Rattle.std.proofs.Common.{◌≡◌, ℕ, ◌+◌, ◌^◌, ◌<◌, ◌≤◌, List, [], ◌∷◌, ◌++◌, length, refl, ap, sym, ◌∙◌, arith, subst, inl, inr, map, Ok, Err, Some, None, All}
 use Rattle.std.proofs.lemmas.Simd.{map-map}
 use Rattle.std.proofs.lemmas.List.{append-nil, map-append, length-map}
-use Rattle.std.specs.List.{All}
 use Rattle.std.proofs.lemmas.List.Elements.{All-cons, All-nil, All-head, All-tail}
-use Rattle.std.specs.Prelude.{map, Ok, Err, Some, None}
 use Rattle.duct_base.proofs.Sieving.{AsksAll, IsSwept, Takes, counted_more, sieves_fewer}
 use Rattle.duct_base.proofs.Taking.{given_none}
 use Rattle.duct_base.specs.Pool.{PoolView, IsGiven, Sieves, counted}

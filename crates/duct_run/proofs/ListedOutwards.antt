@@ -1,7 +1,5 @@
 -- In the list of a tree, each scope comes after its outer scope.
-use Rattle.std.proofs.Common.{◌≡◌, ℕ, zero, suc, ◌+◌, ◌≤◌, List, [], ◌∷◌, ◌++◌, length, refl, ap, arith}
-use Rattle.std.specs.Prelude.{None, Some, slice_get}
-use Rattle.std.specs.declared.option.Option.{Option}
+use Rattle.std.proofs.Common.{◌≡◌, ℕ, zero, suc, ◌+◌, ◌≤◌, List, [], ◌∷◌, ◌++◌, length, refl, ap, arith, None, Some, slice_get, Option}
 use Rattle.duct_run.specs.Actions.{PerStream}
 use Rattle.duct_run.specs.Flat.{StreamSource, slot, depth_inside, with_input, with_output, root_sources, sources_inside}
 use Rattle.duct_run.specs.ActionList.{AreOutwards, ScopeEntry, list_of_subtree, list_of, next_index, scope_index, with_scope_entry}

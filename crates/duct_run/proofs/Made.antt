@@ -1,7 +1,6 @@
 -- The spec that is made for a command is the one that its tree asks for, where each port is that of
 -- its stream's target.
-use Rattle.std.specs.Prelude.{ℕ, List}
-use Rattle.std.proofs.Common.{◌≡◌, ◌∙◌}
+use Rattle.std.proofs.Common.{◌≡◌, ◌∙◌, ℕ, List}
 use Rattle.duct_system.specs.SpecView.{SpecView, Vars}
 use Rattle.duct_system.specs.declared.spec.Port.{Port}
 use Rattle.duct_system.specs.declared.spec.Stream.{Stream}

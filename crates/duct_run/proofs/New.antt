@@ -1,10 +1,7 @@
 -- What a successful run holds is a running start, where no child was polled or given an order and
 -- no worker was polled.
-use Rattle.std.proofs.Common.{◌≡◌, ℕ, List, [], ◌∷◌, ◌++◌, refl, ap, sym, ◌∙◌, subst}
+use Rattle.std.proofs.Common.{◌≡◌, ℕ, List, [], ◌∷◌, ◌++◌, refl, ap, sym, ◌∙◌, subst, map, is_some, option_to_list, All}
 use Rattle.std.proofs.lemmas.List.Elements.{All-append, All-head, All-tail}
-use Rattle.std.specs.List.{All}
-use Rattle.std.specs.Option.{option_to_list}
-use Rattle.std.specs.Prelude.{map, is_some}
 use Rattle.duct_status.specs.ShapeView.{shape_view}
 use Rattle.duct_status.specs.declared.status.Shape.{Shape}
 use Rattle.duct_system.specs.Child.{ChildView}

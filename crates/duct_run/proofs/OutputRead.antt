@@ -1,7 +1,5 @@
 -- Where stdout's capture pipe is open, there is room to give away its two ends.
-use Rattle.std.proofs.Common.{◌≡◌, ℕ, ◌≤◌, List, ◌++◌, true, length, arith, length-append}
-use Rattle.std.specs.Prelude.{Some, None, is_some}
-use Rattle.std.specs.declared.option.Option.{Option}
+use Rattle.std.proofs.Common.{◌≡◌, ℕ, ◌≤◌, List, ◌++◌, true, length, arith, length-append, Some, None, is_some, Option}
 use Rattle.duct_status.specs.declared.per_side.PerSide.{PerSide}
 use Rattle.duct_run.specs.ResourcesView.{ends_of_pipes, pipe_ends}
 

@@ -1,7 +1,5 @@
 -- One step to the scope outside, as the code reads it.
-use Rattle.std.specs.Prelude.{List, Some, slice_get}
-use Rattle.std.specs.Option.{option_map}
-use Rattle.std.proofs.Common.{◌≡◌, ℕ, ◌+◌, ◌-◌, ◌<◌, ◌≤◌, length, get_or, refl, ap, sym, ◌∙◌, arith}
+use Rattle.std.proofs.Common.{◌≡◌, ℕ, ◌+◌, ◌-◌, ◌<◌, ◌≤◌, length, get_or, refl, ap, sym, ◌∙◌, arith, List, Some, slice_get, option_map}
 use Rattle.std.proofs.lemmas.Option.{slice_get-map, slice_get_read}
 use Rattle.duct_run.specs.Flat.{root_scope, scope_inside}
 use Rattle.duct_run.specs.ActionList.{AreOutwards, scope_in}

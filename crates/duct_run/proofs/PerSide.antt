@@ -1,9 +1,6 @@
 -- The capture pipes and workers of a run once one of them is another one.
-use Rattle.std.proofs.Common.{◌≡◌, ℕ, [], ◌∷◌, ◌++◌, refl, ap, sym, ◌∙◌}
+use Rattle.std.proofs.Common.{◌≡◌, ℕ, [], ◌∷◌, ◌++◌, refl, ap, sym, ◌∙◌, map, None, Some, option_to_list, Option}
 use Rattle.std.proofs.lemmas.List.{append-nil, map-append}
-use Rattle.std.specs.Option.{option_to_list}
-use Rattle.std.specs.Prelude.{map, None, Some}
-use Rattle.std.specs.declared.option.Option.{Option}
 use Rattle.duct_system.specs.declared.system.Side.{Side}
 use Rattle.duct_system.specs.declared.system.Side.TheVariants.{Out, Err}
 use Rattle.duct_status.specs.PerSide.{at_side, with_side}

@@ -1,13 +1,9 @@
 -- The stack of a run, as its vector grows and shrinks.
-use Rattle.std.proofs.Common.{◌+◌, ◌≤◌, length-append, ◌≡◌, ℕ, ◌<◌, List, [], ◌∷◌, ◌++◌, length, ap, sym, ◌∙◌, subst, get_or, refl, arith}
+use Rattle.std.proofs.Common.{◌+◌, ◌≤◌, length-append, ◌≡◌, ℕ, ◌<◌, List, [], ◌∷◌, ◌++◌, length, ap, sym, ◌∙◌, subst, get_or, refl, arith, min, map, reverse, slice_get, Some, option_map, All, Result}
 use Rattle.std.proofs.Math.Nat.{min-le_right}
 use Rattle.std.proofs.lemmas.List.Elements.{All-append, All-cons, All-nil}
 use Rattle.std.proofs.lemmas.List.{reverse-append, map-append, reverse-reverse, length-reverse, length-map}
 use Rattle.std.proofs.lemmas.Option.{slice_get-get_or, slice_get-map}
-use Rattle.std.specs.Prelude.{min, map, reverse, slice_get, Some}
-use Rattle.std.specs.Option.{option_map}
-use Rattle.std.specs.List.{All}
-use Rattle.std.specs.declared.result.Result.{Result}
 use Rattle.duct_system.specs.EntryView.{Feed}
 use Rattle.duct_system.specs.Job.{JobView, unpolled_job}
 use Rattle.duct_system.specs.Journal.{JournalView, AddsNothing, GivesEnds}

@@ -1,9 +1,7 @@
 -- The end of a reader's start: the write end of stdout's capture pipe is closed, and a reader is
 -- made of its read end.
-use Rattle.std.proofs.Common.{◌≡◌, ℕ, ◌≤◌, List, [], ◌∷◌, ◌++◌, length, refl, ap, sym, ◌∙◌, arith, subst, append_assoc}
+use Rattle.std.proofs.Common.{◌≡◌, ℕ, ◌≤◌, List, [], ◌∷◌, ◌++◌, length, refl, ap, sym, ◌∙◌, arith, subst, append_assoc, Some, unwrap_or, Option}
 use Rattle.std.proofs.lemmas.List.{append-nil}
-use Rattle.std.specs.Prelude.{Some, unwrap_or}
-use Rattle.std.specs.declared.option.Option.{Option}
 use Rattle.duct_system.specs.EntryView.{EntryView, Close, Reader}
 use Rattle.duct_system.specs.Journal.{JournalView, GivesEnds}
 use Rattle.duct_system.specs.Trace.{segment}

@@ -1,10 +1,8 @@
 -- The streams of a command are among the ends on a stack, and each may be changed to another end.
-use Rattle.std.proofs.Common.{◌≡◌, ℕ, suc, zero, ◌<◌, ◌≤◌, List, [], ◌∷◌, ◌++◌, length, refl, ap, sym, ◌∙◌, arith, subst, length-append, get_or}
+use Rattle.std.proofs.Common.{◌≡◌, ℕ, suc, zero, ◌<◌, ◌≤◌, List, [], ◌∷◌, ◌++◌, length, refl, ap, sym, ◌∙◌, arith, subst, length-append, get_or, All, Err, None, Ok, Some, map, slice_get, option_map}
 use Rattle.std.proofs.lemmas.List.Elements.{All-head, All-tail}
 use Rattle.std.proofs.lemmas.Bool.Decides.{nat_tests}
 use Rattle.std.proofs.lemmas.Option.{slice_get-get_or, slice_get-map}
-use Rattle.std.specs.Option.{option_map}
-use Rattle.std.specs.Prelude.{All, Err, None, Ok, Some, map, slice_get}
 use Rattle.duct_system.specs.EntryView.{Close, Duplicate}
 use Rattle.duct_system.specs.Journal.{JournalView, GetsEnd, GivesEnds, IsRefused}
 use Rattle.duct_system.specs.Ledger.{count_of}

@@ -1,8 +1,6 @@
 -- A run from the environment to the capture pipes.
-use Rattle.std.proofs.Common.{◌≡◌, ℕ, ◌≤◌, List, [], ◌∷◌, ◌++◌, length, refl, ap, sym, ◌∙◌, append_assoc, arith, subst}
+use Rattle.std.proofs.Common.{◌≡◌, ℕ, ◌≤◌, List, [], ◌∷◌, ◌++◌, length, refl, ap, sym, ◌∙◌, append_assoc, arith, subst, Err, None, Ok, Some, is_some, slice_get, Option}
 use Rattle.std.proofs.lemmas.List.{append-nil}
-use Rattle.std.specs.declared.option.Option.{Option}
-use Rattle.std.specs.Prelude.{Err, None, Ok, Some, is_some, slice_get}
 use Rattle.duct_system.specs.EntryView.{EntryView, Environment}
 use Rattle.duct_system.specs.Journal.{JournalView, Asks, IsRefused}
 use Rattle.duct_system.specs.Trace.{trace}

@@ -1,8 +1,6 @@
 -- A run over a list of actions.
-use Rattle.std.proofs.Common.{◌≡◌, ℕ, zero, suc, inl, inr, ◌≤◌, List, [], ◌∷◌, ◌++◌, length, refl, ap, sym, ◌∙◌, arith, append_assoc, length-append, subst, take}
+use Rattle.std.proofs.Common.{◌≡◌, ℕ, zero, suc, inl, inr, ◌≤◌, List, [], ◌∷◌, ◌++◌, length, refl, ap, sym, ◌∙◌, arith, append_assoc, length-append, subst, take, Some, None, Ok, Err, is_some, if◌then◌else◌, Option}
 use Rattle.std.proofs.lemmas.List.{append-nil}
-use Rattle.std.specs.Prelude.{Some, None, Ok, Err, is_some, if◌then◌else◌}
-use Rattle.std.specs.declared.option.Option.{Option}
 use Rattle.duct_system.specs.EntryView.{EntryView, Environment}
 use Rattle.duct_system.specs.Journal.{JournalView, AddsNothing, Asks, IsRefused}
 use Rattle.duct_system.specs.Ledger.{opened_numbers, spent_numbers, opened_by, spent_by}

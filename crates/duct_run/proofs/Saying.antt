@@ -1,8 +1,7 @@
 -- An action that succeeds or fails from any state of a run does so where the system returned these
 -- variables.
-use Rattle.std.proofs.Common.{ℕ, OnOk, IfErr}
+use Rattle.std.proofs.Common.{ℕ, OnOk, IfErr, Result}
 use Rattle.std.proofs.lemmas.Result.{on_ok_weaker, IfErr-weaker}
-use Rattle.std.specs.declared.result.Result.{Result}
 use Rattle.duct_system.specs.Journal.{JournalView}
 use Rattle.duct_system.specs.SpecView.{Vars}
 use Rattle.duct_system.specs.declared.error.Error.{Error}

@@ -1,6 +1,5 @@
 -- The scope of an index in a list: what its own node sets, inside its outer scope.
-use Rattle.std.specs.Prelude.{Some, slice_get, unwrap_or}
-use Rattle.std.proofs.Common.{◌≡◌, ℕ, zero, suc, ◌+◌, ◌<◌, List, [], ◌∷◌, ◌++◌, length, ap, sym, ◌∙◌, arith, inl, inr, length-append}
+use Rattle.std.proofs.Common.{◌≡◌, ℕ, zero, suc, ◌+◌, ◌<◌, List, [], ◌∷◌, ◌++◌, length, ap, sym, ◌∙◌, arith, inl, inr, length-append, Some, slice_get, unwrap_or}
 use Rattle.std.proofs.lemmas.Option.{slice_get_cases}
 use Rattle.duct_run.specs.Actions.{Scope}
 use Rattle.duct_run.specs.Flat.{root_scope, scope_inside}

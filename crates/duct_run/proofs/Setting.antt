@@ -1,9 +1,7 @@
 -- Settings of scopes, collected from the inside out.
-use Rattle.std.specs.Prelude.{ℕ, List, [], ◌∷◌, ◌++◌, Some, None}
 use Rattle.std.specs.Borrow.{Bor}
 use Rattle.std.specs.Option.{option_copied, option_or}
-use Rattle.std.specs.declared.option.Option.{Option}
-use Rattle.std.proofs.Common.{◌≡◌, refl, ap, sym, ◌∙◌}
+use Rattle.std.proofs.Common.{◌≡◌, refl, ap, sym, ◌∙◌, ℕ, List, [], ◌∷◌, ◌++◌, Some, None, Option}
 use Rattle.std.proofs.lemmas.List.{append-nil}
 use Rattle.duct_system.specs.SpecView.{Vars}
 use Rattle.duct_start.specs.Surroundings.{variable}

@@ -1,8 +1,6 @@
 -- Numbers of ends that come from their targets, pair by pair.
-use Rattle.std.proofs.Common.{◌≡◌, ℕ, ◌+◌, zero, suc, List, [], ◌∷◌, ◌++◌, length, ◌∙◌, arith, subst, sym, refl, inl, inr}
+use Rattle.std.proofs.Common.{◌≡◌, ℕ, ◌+◌, zero, suc, List, [], ◌∷◌, ◌++◌, length, ◌∙◌, arith, subst, sym, refl, inl, inr, ◌⊎◌, None, Ok, Some, drop, reverse, slice_get, unwrap_or, Option}
 use Rattle.std.proofs.lemmas.List.{append-nil, reverse-append}
-use Rattle.std.specs.declared.option.Option.{Option}
-use Rattle.std.specs.Prelude.{◌⊎◌, None, Ok, Some, drop, reverse, slice_get, unwrap_or}
 use Rattle.duct_system.specs.EntryView.{EntryView, Spawn, Duplicate}
 use Rattle.duct_system.specs.Origin.{Origin, Opened, origin}
 use Rattle.duct_system.specs.declared.spec.Stream.TheVariants as stream

@@ -1,9 +1,6 @@
 -- The spawn of a command, after its canonical path and its hooks.
-use Rattle.std.proofs.Common.{◌≡◌, ℕ, zero, suc, inl, inr, ◌+◌, ◌-◌, ◌<◌, ◌≤◌, List, [], ◌∷◌, ◌++◌, length, refl, ap, sym, ◌∙◌, arith, subst, append_assoc, length-append}
+use Rattle.std.proofs.Common.{◌≡◌, ℕ, zero, suc, inl, inr, ◌+◌, ◌-◌, ◌<◌, ◌≤◌, List, [], ◌∷◌, ◌++◌, length, refl, ap, sym, ◌∙◌, arith, subst, append_assoc, length-append, Bool, true, false, Err, Ok, Some, if◌then◌else◌, map, slice_get, Option, Result}
 use Rattle.std.proofs.lemmas.List.{append-nil, nil_from_length}
-use Rattle.std.specs.declared.option.Option.{Option}
-use Rattle.std.specs.declared.result.Result.{Result}
-use Rattle.std.specs.Prelude.{Bool, true, false, Err, Ok, Some, if◌then◌else◌, map, slice_get}
 use Rattle.duct_system.specs.EntryView.{EntryView, Spawn}
 use Rattle.duct_system.specs.Journal.{JournalView, GivesEnds, IsRefused}
 use Rattle.duct_system.specs.Ledger.{count_of, spent_by}

@@ -1,8 +1,6 @@
 -- A run makes no request but closes after a request that was refused.
-use Rattle.std.proofs.Common.{◌≡◌, ℕ, List, [], ◌∷◌, ◌++◌, refl, sym, subst, append_assoc}
+use Rattle.std.proofs.Common.{◌≡◌, ℕ, List, [], ◌∷◌, ◌++◌, refl, sym, subst, append_assoc, map, Some, None, IfSome, Option}
 use Rattle.std.proofs.lemmas.List.{append-nil}
-use Rattle.std.specs.Prelude.{map, Some, None, IfSome}
-use Rattle.std.specs.declared.option.Option.{Option}
 use Rattle.duct_system.specs.EntryView.{EntryView, Close}
 use Rattle.duct_system.specs.Trace.{IsClean, StopsAtFault, OnlyCloses, fault_of}
 use Rattle.duct_system.specs.declared.error.Error.{Error}

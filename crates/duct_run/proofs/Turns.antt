@@ -1,11 +1,8 @@
 -- One more action of a run's list, where the system returned these variables.
-use Rattle.std.proofs.Common.{◌≡◌, ℕ, ◌+◌, ◌<◌, ◌≤◌, List, [], ◌∷◌, ◌++◌, All, length, map, drop, get_or, suc, refl, ap, sym, ◌∙◌, arith, subst}
+use Rattle.std.proofs.Common.{◌≡◌, ℕ, ◌+◌, ◌<◌, ◌≤◌, List, [], ◌∷◌, ◌++◌, All, length, map, drop, get_or, suc, refl, ap, sym, ◌∙◌, arith, subst, None, Some, is_some, slice_get, option_map, option_to_list, Option}
 use Rattle.std.proofs.lemmas.List.{drop_all, get_or-map, length-map}
 use Rattle.std.proofs.lemmas.List.Elements.{All-get_or}
 use Rattle.std.proofs.Math.Seq.{drop-cons}
-use Rattle.std.specs.Option.{option_map, option_to_list}
-use Rattle.std.specs.Prelude.{None, Some, is_some, slice_get}
-use Rattle.std.specs.declared.option.Option.{Option}
 use Rattle.duct_system.specs.Child.{ChildView}
 use Rattle.duct_system.specs.Child as child_spec
 use Rattle.duct_system.specs.EntryView.{EntryView}

@@ -1,12 +1,9 @@
 -- In the list of a tree, each command's scope is the root's or one of the listed scopes.
-use Rattle.std.proofs.Common.{ℕ, ◌+◌, ◌≤◌, List, [], ◌∷◌, ◌++◌, length, arith, length-append}
+use Rattle.std.proofs.Common.{ℕ, ◌+◌, ◌≤◌, List, [], ◌∷◌, ◌++◌, length, arith, length-append, None, Some, All, Option}
 use Rattle.std.proofs.lemmas.List.Elements.{All-append, All-cons, All-nil}
-use Rattle.std.specs.List.{All}
 use Rattle.duct_system.specs.declared.spec.Stream.{Stream}
 use Rattle.duct_system.specs.declared.spec.Stream.TheVariants.{In, Out, Err}
 use Rattle.duct_system.specs.declared.system.Side.TheVariants as side
-use Rattle.std.specs.Prelude.{None, Some}
-use Rattle.std.specs.declared.option.Option.{Option}
 use Rattle.duct_run.specs.Actions as action
 use Rattle.duct_run.specs.Actions.{ActionOf, PerStream}
 use Rattle.duct_run.specs.Flat.{StreamSource, parents, nothing, slot, captured, lent, source_actions, depth_inside, with_input, with_output, root_sources, ports_at, sources_inside, actions_around}

@@ -1,6 +1,5 @@
 -- The flat plan with scopes by index: a list of actions, and the list of scopes that they name.
-use Rattle.std.specs.Prelude.{ℕ, ◌+◌, ◌≤◌, ◌≡◌, None, Some, List, [], ◌∷◌, ◌++◌, length, map, slice_get, unwrap_or}
-use Rattle.std.specs.declared.option.Option.{Option}
+use Rattle.std.specs.Prelude.{ℕ, ◌+◌, ◌≤◌, ◌≡◌, None, Some, List, [], ◌∷◌, ◌++◌, length, map, slice_get, unwrap_or, Option}
 use Rattle.duct_run.specs.Actions as action
 use Rattle.duct_run.specs.Actions.{Action, ActionOf, Scope, PerStream}
 use Rattle.duct_run.specs.Flat.{StreamSource, slot, command_actions, depth_inside, with_input, with_output, root_sources, root_scope, scope_inside, sources_inside, actions_around}

@@ -1,7 +1,6 @@
 -- Scopes and actions as contracts see them.
-use Rattle.std.specs.Prelude.{ℕ, List, map, string_bytes, [], ◌∷◌, ◌≡◌, All, length}
+use Rattle.std.specs.Prelude.{ℕ, List, map, string_bytes, [], ◌∷◌, ◌≡◌, All, length, String}
 use Rattle.std.specs.Arc.{arc_value}
-use Rattle.std.specs.declared.string.String.{String}
 use Rattle.duct_system.specs.declared.spec.Port.{Port}
 use Rattle.duct_run.specs.Actions as action
 use Rattle.duct_run.specs.ActionList.{AreOutwards, IsWithin, resolved_all, scope_in, ScopeEntry, scopes_from}

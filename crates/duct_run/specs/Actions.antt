@@ -1,8 +1,7 @@
 -- The actions of a start, as a flat list over a stack of ends: an action pushes the ends that it
 -- gets and pops those that it gives. Capture pipes are kept apart from the stack. No request to a
 -- system is made here.
-use Rattle.std.specs.Prelude.{ℕ, ◌+◌, ◌<◌, ◌≤◌, ◌≡◌, ◌||◌, Bool, true, false, List, [], ◌∷◌, ◌++◌, length, drop, reverse, slice_get, unwrap_or, None, IsSome, All}
-use Rattle.std.specs.declared.option.Option.{Option}
+use Rattle.std.specs.Prelude.{ℕ, ◌+◌, ◌<◌, ◌≤◌, ◌≡◌, ◌||◌, Bool, true, false, List, [], ◌∷◌, ◌++◌, length, drop, reverse, slice_get, unwrap_or, None, IsSome, All, Option}
 use Rattle.duct_system.specs.declared.spec.Port.{Port}
 use Rattle.duct_system.specs.declared.spec.Port.TheVariants as port
 use Rattle.duct_system.specs.declared.spec.Stream.{Stream}

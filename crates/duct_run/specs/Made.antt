@@ -1,7 +1,5 @@
 -- The spec that is made for a command in its scope, or the canonical path that was refused.
-use Rattle.std.specs.Prelude.{ℕ, List, ◌≡◌, string_bytes, Some, None, true, Err}
-use Rattle.std.specs.declared.option.Option.{Option}
-use Rattle.std.specs.declared.string.String.{String}
+use Rattle.std.specs.Prelude.{ℕ, List, ◌≡◌, string_bytes, Some, None, true, Err, Option, String}
 use Rattle.duct_system.specs.Journal.{JournalView, IsRefused}
 use Rattle.duct_system.specs.SpecView.{SpecView, Vars, AreOrdered, variable_in, port_of}
 use Rattle.duct_system.specs.declared.spec.Port.{Port}

@@ -1,6 +1,5 @@
 -- What a request of a run does, by the views of its system.
-use Rattle.std.specs.Prelude.{OnOk, IfErr, List, [], ◌≡◌, is_some}
-use Rattle.std.specs.declared.result.Result.{Result}
+use Rattle.std.specs.Prelude.{OnOk, IfErr, List, [], ◌≡◌, is_some, Result}
 use Rattle.duct_run.specs.Actions.{Action, State}
 use Rattle.duct_start.specs.Chain.{Allows, Refuses}
 use Rattle.duct_run.specs.ResourcesView.{ResourcesView, AreNew, HasSameWorkers, empty_resources, resources_view}

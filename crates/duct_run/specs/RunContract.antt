@@ -1,6 +1,5 @@
 -- What a whole run guarantees, from the request for the environment to the capture pipes.
-use Rattle.std.specs.Prelude.{◌≡◌, Bool, false, is_some, ℕ, List, [], IsSome, None, Some}
-use Rattle.std.specs.declared.option.Option.{Option}
+use Rattle.std.specs.Prelude.{◌≡◌, Bool, false, is_some, ℕ, List, [], IsSome, None, Some, Option}
 use Rattle.duct_system.specs.EntryView.{EntryView, Close, Reader}
 use Rattle.duct_system.specs.Journal.{JournalView, GivesEnds}
 use Rattle.duct_system.specs.SpecView.{Vars}

@@ -1,6 +1,6 @@
 -- What the scopes around a command set for it, with the changes of variables, as the code collects
 -- it.
-use Rattle.std.specs.Prelude.{ℕ, List, [], ◌∷◌, ◌++◌, ◌≡◌, map, Some, None}
+use Rattle.std.specs.Prelude.{ℕ, List, [], ◌∷◌, ◌++◌, ◌≡◌, map, Some, None, Option, String}
 use Rattle.std.specs.Borrow.{Bor}
 use Rattle.std.specs.Option.{option_copied, option_or}
 use Rattle.duct_system.specs.SpecView.{Vars, var_view}
@@ -8,8 +8,6 @@ use Rattle.duct_start.specs.Surroundings.{variable, VariableChange, Replaces}
 use Rattle.duct_run.specs.Actions.{Scope}
 use Rattle.duct_run.specs.declared.settings.Settings.{Settings}
 use Rattle.std.specs.BTreeMap.{BTreeMap}
-use Rattle.std.specs.declared.option.Option.{Option}
-use Rattle.std.specs.declared.string.String.{String}
 use Rattle.duct_start.specs.Surroundings as found
 use Rattle.duct_run.specs.declared.variables.Changes.{Changes}
 use Rattle.duct_run.specs.declared.variables.VariableChange as declared

@@ -24,7 +24,7 @@ use duct_base::system::System;
 use duct_system::views::Viewed;
 
 // Performs one action. A spawn sweeps the pool first.
-fn perform<S: System, H: Hook>(
+fn perform_one<S: System, H: Hook>(
     sys: &mut S,
     pool: &mut Pool<S::Child>,
     pairs: &Vec<(String, String)>,
@@ -97,7 +97,7 @@ pub(crate) fn perform_all<S: System, H: Hook>(
 {
     for action in actions {
         make_room(held)?;
-        perform(sys, pool, pairs, scopes, *action, held)?;
+        perform_one(sys, pool, pairs, scopes, *action, held)?;
     }
     Ok(())
 }

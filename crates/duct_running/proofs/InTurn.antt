@@ -1,7 +1,6 @@
 -- A list whose items are changed one after the other, from the first on.
-use Rattle.std.specs.Prelude.{ℕ, zero, suc, List, [], ◌∷◌, length}
 use Rattle.std.specs.List.{AllZip}
-use Rattle.std.proofs.Common.{◌≡◌, ◌+◌, ◌≤◌, add-one, ap, sym, subst, arith}
+use Rattle.std.proofs.Common.{◌≡◌, ◌+◌, ◌≤◌, add-one, ap, sym, subst, arith, ℕ, zero, suc, List, [], ◌∷◌, length}
 use Rattle.duct_running.specs.Polled.{ChangedAt}
 
 -- this many items from the first on were changed, and the others are as before

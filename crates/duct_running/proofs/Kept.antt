@@ -1,8 +1,6 @@
 -- A poll leaves the shape, the numbers and the orders as they were.
 use Rattle.std.specs.Prelude.{ℕ, Bool, true, false, List, [], ◌∷◌, map, MatchBool, MatchOption, Some, None}
-use Rattle.std.specs.Option.{option_map}
-use Rattle.std.specs.declared.option.Option.{Option}
-use Rattle.std.proofs.Common.{◌≡◌, refl, ap, ◌∙◌}
+use Rattle.std.proofs.Common.{◌≡◌, refl, ap, ◌∙◌, option_map, Option}
 use Rattle.duct_system.specs.Child.{Answer, ChildView, PollsChild, child_after}
 use Rattle.duct_system.specs.Job.{JobView}
 use Rattle.duct_system.specs.declared.system.ExitStatus.{ExitStatus}

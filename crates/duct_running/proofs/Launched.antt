@@ -1,8 +1,5 @@
 -- What a start leaves running was never polled, and its children were given no order.
-use Rattle.std.specs.Prelude.{ℕ, Bool, List, [], ◌∷◌, ◌++◌, All, map, Some, None}
-use Rattle.std.specs.Option.{option_to_list}
-use Rattle.std.specs.declared.option.Option.{Option}
-use Rattle.std.proofs.Common.{◌≡◌, ap, sym, ◌∙◌}
+use Rattle.std.proofs.Common.{◌≡◌, ap, sym, ◌∙◌, ℕ, Bool, List, [], ◌∷◌, ◌++◌, All, map, Some, None, option_to_list, Option}
 use Rattle.std.proofs.lemmas.List.Elements.{All-cons, All-head, All-nil, All-tail, All-weaker}
 use Rattle.duct_system.specs.Child.{IsUnasked}
 use Rattle.duct_system.specs.EntryView.{EntryView}

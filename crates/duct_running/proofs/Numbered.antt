@@ -1,8 +1,5 @@
 -- The numbers in the views of children and workers are their own.
-use Rattle.std.specs.Prelude.{ℕ, List, [], ◌∷◌, map, Some, None}
-use Rattle.std.specs.Option.{option_map}
-use Rattle.std.specs.declared.option.Option.{Option}
-use Rattle.std.proofs.Common.{◌≡◌, refl, ap}
+use Rattle.std.proofs.Common.{◌≡◌, refl, ap, ℕ, List, [], ◌∷◌, map, Some, None, option_map, Option}
 use Rattle.duct_system.specs.Child.{ChildView}
 use Rattle.duct_system.specs.Job.{JobView}
 use Rattle.duct_start.specs.Running.{RunningView}

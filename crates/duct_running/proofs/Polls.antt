@@ -1,7 +1,6 @@
 -- One poll of a child, and what it changes.
 use Rattle.std.specs.Prelude.{ℕ, zero, suc, true, false, List, [], ◌∷◌, map, length, get_or, set, slice_get, MatchOption, Ok, Err, Some, None}
-use Rattle.std.specs.declared.option.Option.{Option}
-use Rattle.std.proofs.Common.{◌≡◌, ◌<◌, refl, ap, sym, ◌∙◌, subst, arith}
+use Rattle.std.proofs.Common.{◌≡◌, ◌<◌, refl, ap, sym, ◌∙◌, subst, arith, Option}
 use Rattle.duct_system.specs.Child.{Answer, ChildView, PollsChild, ending_after}
 use Rattle.duct_system.specs.Job.{JobView}
 use Rattle.duct_status.specs.EventView.{from_command}

@@ -1,8 +1,5 @@
 -- After one more result, each stored result still is one that may be returned.
-use Rattle.std.specs.Prelude.{ℕ, zero, suc, Bool, List, [], ◌∷◌, ◌++◌, All, IfSome, map, length, get_or, set, Ok, Err, Some, None}
-use Rattle.std.specs.Option.{option_map, option_to_list}
-use Rattle.std.specs.declared.option.Option.{Option}
-use Rattle.std.proofs.Common.{◌≡◌, ◌<◌, ◌≤◌, refl, ap, sym, ◌∙◌, subst, arith, inl, inr}
+use Rattle.std.proofs.Common.{◌≡◌, ◌<◌, ◌≤◌, refl, ap, sym, ◌∙◌, subst, arith, inl, inr, ℕ, zero, suc, Bool, List, [], ◌∷◌, ◌++◌, All, IfSome, map, length, get_or, set, Ok, Err, Some, None, option_map, option_to_list, Option, Vec, Global}
 use Rattle.std.proofs.lemmas.List.Elements.{All-cons, All-head, All-nil, All-tail}
 use mathlib.Core.Logic.{∥∥₁_map}
 use Rattle.duct_system.specs.Child.{Answer, ChildView, IsUnasked, Obeyed, OrdersChild, PollsChild, child_after, child_ordered, ending_after}
@@ -11,8 +8,6 @@ use Rattle.duct_system.specs.declared.system.ExitStatus.{ExitStatus}
 use Rattle.duct_system.specs.declared.system.Order.{Order}
 use Rattle.duct_system.specs.declared.system.Said.{Said}
 use Rattle.duct_system.specs.declared.system.Said.TheVariants as said
-use Rattle.std.specs.declared.alloc.Global.{Global}
-use Rattle.std.specs.declared.vec.Vec.{Vec}
 use Rattle.duct_system.specs.declared.system.Side.{Side}
 use Rattle.duct_system.specs.declared.system.Side.TheVariants as side
 use Rattle.duct_status.specs.EventView.{bytes_said, from_drain}

@@ -1,10 +1,7 @@
 -- A core that was given no result has the words that children and workers store which were never
 -- polled.
-use Rattle.std.specs.Prelude.{ℕ, zero, suc, List, [], ◌∷◌, All, map, length, is_some, if◌then◌else◌, Some, None}
 use Rattle.std.specs.List.{range_with_len}
-use Rattle.std.specs.Option.{option_map, option_to_list}
-use Rattle.std.specs.declared.option.Option.{Option}
-use Rattle.std.proofs.Common.{◌≡◌, ◌+◌, refl, ap, sym, ◌∙◌, arith}
+use Rattle.std.proofs.Common.{◌≡◌, ◌+◌, refl, ap, sym, ◌∙◌, arith, ℕ, zero, suc, List, [], ◌∷◌, All, map, length, is_some, if◌then◌else◌, Some, None, option_map, option_to_list, Option}
 use Rattle.std.proofs.lemmas.List.Elements.{All-head, All-tail}
 use Rattle.duct_system.specs.Child.{Answer, ChildView, IsUnasked}
 use Rattle.duct_system.specs.Job.{JobView, unpolled_job}

@@ -1,8 +1,6 @@
 -- Each result that a child or a worker stores is one that a child or a worker of its number may
 -- return.
-use Rattle.std.specs.Prelude.{ℕ, ◌⊎◌, ◌++◌, List, All, Contains, IfSome, map, Ok, Some, None}
-use Rattle.std.specs.Option.{option_map, option_to_list}
-use Rattle.std.specs.declared.option.Option.{Option}
+use Rattle.std.specs.Prelude.{ℕ, ◌⊎◌, ◌++◌, List, All, Contains, IfSome, map, Ok, Some, None, option_map, option_to_list, Option}
 use Rattle.duct_system.specs.Child.{Answer, ChildView}
 use Rattle.duct_system.specs.Job.{JobView}
 use Rattle.duct_system.specs.declared.system.Said.{Said}

@@ -1,6 +1,5 @@
 -- An order to each command of a start that has not ended, and the leftmost fault of the results.
-use Rattle.std.specs.Prelude.{ℕ, Bool, List, [], ◌∷◌, ◌≡◌, All, MatchOption, map, Ok, Err}
-use Rattle.std.specs.declared.result.Result.{Result}
+use Rattle.std.specs.Prelude.{ℕ, Bool, List, [], ◌∷◌, ◌≡◌, All, MatchOption, map, Ok, Err, Result}
 use Rattle.duct_system.specs.Child.{ChildView, Obeyed, OrdersChild}
 use Rattle.duct_system.specs.declared.error.Error.{Error}
 use Rattle.duct_system.specs.declared.error.Error.TheVariants as error

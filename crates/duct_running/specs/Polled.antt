@@ -1,9 +1,6 @@
 -- What a poll of a running expression polls, and what it returns for the outcome of the stored
 -- words.
-use Rattle.std.specs.Prelude.{ℕ, zero, suc, Bool, false, List, [], ◌∷◌, ◌≡◌, MatchBool, MatchOption, map, string_bytes, Ok, Err, Some, None, IsOkAnd, IsErrAnd, IsSomeAnd}
-use Rattle.std.specs.Option.{option_map}
-use Rattle.std.specs.declared.option.Option.{Option}
-use Rattle.std.specs.declared.result.Result.{Result}
+use Rattle.std.specs.Prelude.{ℕ, zero, suc, Bool, false, List, [], ◌∷◌, ◌≡◌, MatchBool, MatchOption, map, string_bytes, Ok, Err, Some, None, IsOkAnd, IsErrAnd, IsSomeAnd, option_map, Option, Result}
 use Rattle.std.specs.declared.alloc.Global.{Global}
 use Rattle.std.specs.declared.sync.Arc.{Arc}
 use Rattle.std.specs.Arc.{arc_value}

@@ -1,10 +1,7 @@
 -- The results that children and workers store, as the words that a core is given.
-use Rattle.std.specs.Prelude.{ℕ, ◌≡◌, List, All, map, Ok, Err, Some, None}
-use Rattle.std.specs.Option.{option_map, option_to_list}
+use Rattle.std.specs.Prelude.{ℕ, ◌≡◌, List, All, map, Ok, Err, Some, None, option_map, option_to_list, Option, Vec}
 use Rattle.std.specs.declared.alloc.Global.{Global}
-use Rattle.std.specs.declared.option.Option.{Option}
 use Rattle.std.specs.declared.sync.Arc.{Arc}
-use Rattle.std.specs.declared.vec.Vec.{Vec}
 use Rattle.duct_system.specs.Child.{Answer, ChildView, IsUnasked}
 use Rattle.duct_system.specs.Job.{JobView, unpolled_job}
 use Rattle.duct_start.specs.Running.{RunningView}

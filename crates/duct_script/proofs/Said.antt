@@ -1,7 +1,5 @@
 -- What a drain returns again.
-use Rattle.std.specs.Prelude.{ℕ, List, ◌≡◌, IfSome, IfNone, Some, None}
-use Rattle.std.specs.Option.{unwrap_or}
-use Rattle.std.specs.declared.option.Option.{Option}
+use Rattle.std.specs.Prelude.{ℕ, List, ◌≡◌, IfSome, IfNone, Some, None, unwrap_or, Option}
 use Rattle.duct_system.specs.Job.{SaysAgain}
 use Rattle.duct_system.specs.declared.system.Said.{Said}
 use Rattle.duct_system.specs.declared.system.Said.TheVariants.{Running, Done, Fault}

@@ -1,11 +1,9 @@
 -- What calls return: the next result of a list that a test sets, or bytes that others own too.
-use Rattle.std.specs.Prelude.{ℕ, ◌-◌, ◌^◌, max, List, [], ◌∷◌, ◌≡◌, Contains, Ok, Err}
+use Rattle.std.specs.Prelude.{ℕ, ◌-◌, ◌^◌, max, List, [], ◌∷◌, ◌≡◌, Contains, Ok, Err, Result, Vec}
 use Rattle.std.specs.declared.alloc.Global.{Global}
 use Rattle.std.specs.declared.io.ErrorKind.{ErrorKind}
-use Rattle.std.specs.declared.result.Result.{Result}
 use Rattle.std.specs.declared.sync.Arc.{Arc}
 use Rattle.std.specs.declared.time.Duration.{Duration}
-use Rattle.std.specs.declared.vec.Vec.{Vec}
 use Rattle.std.specs.Arc.{arc_value}
 use Rattle.duct_system.specs.declared.system.Said.{Said}
 use Rattle.duct_system.specs.declared.system.Said.TheVariants as said

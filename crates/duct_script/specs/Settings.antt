@@ -1,7 +1,6 @@
 -- What a test has set: the faults of requests, canonical paths, a log, and the changes of a hook.
-use Rattle.std.specs.Prelude.{ℕ, Bool, false, ◌==◌, ◌&&◌, ◌≡◌, List, [], ◌∷◌, Some, None, replicate, slice_index, slice_set, if◌then◌else◌, ◌++◌, nat_eq, string_bytes}
+use Rattle.std.specs.Prelude.{ℕ, Bool, false, ◌==◌, ◌&&◌, ◌≡◌, List, [], ◌∷◌, Some, None, replicate, slice_index, slice_set, if◌then◌else◌, ◌++◌, nat_eq, string_bytes, Option}
 use Rattle.std.specs.declared.alloc.Global.{Global}
-use Rattle.std.specs.declared.option.Option.{Option}
 use Rattle.std.specs.declared.sync.Arc.{Arc}
 use Rattle.std.specs.Arc.{arc_value}
 use Rattle.std.specs.BTreeMap.{insert_entry}

@@ -1,7 +1,5 @@
 -- What the failed request of a start says of its error.
-use Rattle.std.proofs.Common.{◌≡◌, ℕ, refl, sym, ◌∙◌, ap, List, Some, None, is_some, if◌then◌else◌, inl, inr}
-use Rattle.std.specs.declared.option.Option.{Option}
-use Rattle.std.specs.Option.{option_and_then}
+use Rattle.std.proofs.Common.{◌≡◌, ℕ, refl, sym, ◌∙◌, ap, List, Some, None, is_some, if◌then◌else◌, inl, inr, option_and_then, Option}
 use Rattle.std.proofs.lemmas.Option.{none-some}
 use Rattle.duct_system.specs.EntryView.{EntryView}
 use Rattle.duct_system.specs.Trace.{fault_of}

@@ -1,13 +1,11 @@
 -- Lines that a buffered reader gives, where its bytes are known.
-use Rattle.std.proofs.Common.{◌≡◌, ◌<◌, ℕ, List, [], ◌∷◌, None, Some, Ok, if◌then◌else◌, ◌==◌, IfSome, length, refl, ap, subst, ◌∙◌, arith}
+use Rattle.std.proofs.Common.{◌≡◌, ◌<◌, ℕ, List, [], ◌∷◌, None, Some, Ok, if◌then◌else◌, ◌==◌, IfSome, length, refl, ap, subst, ◌∙◌, arith, Option, Result}
 use Rattle.std.proofs.KnownBytes.{prepend_known-nil}
 use Rattle.std.specs.Io.BufRead.{drop_through, first_line}
 use Rattle.std.specs.Io.Buffered.{reader_buffer, reader_capacity, reader_inner, reader_remaining}
 use Rattle.std.specs.Io.Iter.{YieldsKnownPiece}
 use Rattle.std.specs.Io.KnownBytes.{IsAtEnd, prepend_known}
 use Rattle.std.specs.declared.io.buffered.BufReader.{BufReader}
-use Rattle.std.specs.declared.option.Option.{Option}
-use Rattle.std.specs.declared.result.Result.{Result}
 use Rattle.duct_shell.specs.Lines.{StepsThroughLines}
 
 -- a fact of a known value

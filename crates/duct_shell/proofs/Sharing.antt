@@ -40,7 +40,7 @@ use Rattle.duct_handle.specs.contracts.handle.Handle
 use Rattle.duct_handle.proofs.ReaderThreads.{reader_handle_sync}
 use Rattle.duct_handle.specs.contracts.reader.ReaderHandle
 use Rattle.duct_host.specs.contracts.child.Child
-use Rattle.duct_host.specs.contracts.child.Seen
+use Rattle.duct_host.specs.contracts.child.SeenEnding
 use Rattle.duct_host.specs.contracts.end.End
 use Rattle.duct_host.specs.contracts.reader.Reader
 
@@ -53,7 +53,7 @@ runtime_sync : (ℓ : Lifetime) (κ : Lft) → IsSync (ShrRef ℓ κ LibcRuntime
 runtime_sync ℓ κ = search (sendable, crosses) depth 20
 
 -- how a poll saw a child end
-seen_send : IsSend (Seen.the_field).row
+seen_send : IsSend (SeenEnding.the_field).row
 seen_send = search (sendable, crosses) depth 40
 
 -- a child of the host

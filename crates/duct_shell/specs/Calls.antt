@@ -1,15 +1,11 @@
 -- What a call of a shell does that starts an expression, from where it begins: its journal is that
 -- of the last start, unless it is kept; a limit of time counts from then.
-use Rattle.std.specs.Prelude.{ℕ, ◌+◌, ◌⊎◌, Bool, true, false, ◌≡◌, List, Ok, Err, min, Some, None, IfSome, map, string_bytes}
+use Rattle.std.specs.Prelude.{ℕ, ◌+◌, ◌⊎◌, Bool, true, false, ◌≡◌, List, Ok, Err, min, Some, None, IfSome, map, string_bytes, Option, Result, String, Vec}
 use Rattle.std.specs.Duration.{as_nanos, max_nanos}
 use Rattle.std.specs.declared.alloc.Global.{Global}
-use Rattle.std.specs.declared.option.Option.{Option}
-use Rattle.std.specs.declared.result.Result.{Result}
-use Rattle.std.specs.declared.string.String.{String}
 use Rattle.std.specs.declared.time.Duration.{Duration}
 use Rattle.std.specs.Arc.{arc_value}
 use Rattle.std.specs.declared.sync.Arc.{Arc}
-use Rattle.std.specs.declared.vec.Vec.{Vec}
 use Rattle.duct_base.specs.Pool.{PoolView}
 use Rattle.duct_system.specs.Journal.{JournalView, IsCleared}
 use Rattle.duct_system.specs.SystemViews.{SystemViews}

@@ -1,11 +1,10 @@
 -- What a failure becomes as an `io::Error`, an `io::Error` as an error of the library, and what is
 -- returned by a read of a shared reader, and of an expression that std's calls read.
-use Rattle.std.specs.Prelude.{◌≡◌, ◌⊎◌, Ok, Err, Some, ℕ, ◌<◌}
+use Rattle.std.specs.Prelude.{◌≡◌, ◌⊎◌, Ok, Err, Some, ℕ, ◌<◌, Result}
 use Rattle.std.specs.declared.io.ErrorKind.{ErrorKind}
 use Rattle.std.specs.declared.io.ErrorKind.TheVariants as kind
 use Rattle.std.specs.IoError.{error_kind}
 use Rattle.std.specs.declared.alloc.Global.{Global}
-use Rattle.std.specs.declared.result.Result.{Result}
 use Rattle.std.specs.declared.sync.Arc.{Arc}
 use Rattle.std.specs.declared.io.Error as io
 use Rattle.duct_system.specs.declared.error.Error.{Error}

@@ -1,8 +1,7 @@
 -- What a writer gets of what is read.
-use Rattle.std.specs.Prelude.{◌≡◌, ℕ, List, None, Some}
+use Rattle.std.specs.Prelude.{◌≡◌, ℕ, List, None, Some, Option}
 use Rattle.std.specs.Io.KnownBytes.{Keeps}
 use Rattle.std.specs.declared.io.ErrorKind.{ErrorKind}
-use Rattle.std.specs.declared.option.Option.{Option}
 use Rattle.duct_base.specs.Transfer.{Writes}
 
 -- a writer that nothing has stopped gets these bytes, up to an error of it; one that an error has

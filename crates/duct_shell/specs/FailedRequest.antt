@@ -1,9 +1,6 @@
 -- The request that made a start fail, what it says of the start's error, and its text.
-use Rattle.std.specs.Prelude.{List, ◌≡◌, ◌-◌, length, is_some, slice_get, Some, None, if◌then◌else◌, IfSome, string_bytes}
-use Rattle.std.specs.declared.option.Option.{Option}
-use Rattle.std.specs.Option.{option_and_then}
+use Rattle.std.specs.Prelude.{List, ◌≡◌, ◌-◌, length, is_some, slice_get, Some, None, if◌then◌else◌, IfSome, string_bytes, option_and_then, Option, String}
 use Rattle.std.specs.declared.alloc.Global.{Global}
-use Rattle.std.specs.declared.string.String.{String}
 use Rattle.duct_system.specs.EntryView.{EntryView}
 use Rattle.duct_system.specs.Trace.{fault_of}
 use Rattle.duct_system.specs.declared.error.Error.{Error}

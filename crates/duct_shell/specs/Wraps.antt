@@ -1,6 +1,5 @@
 -- What a chain of builders is made of, and what each builder makes of it.
-use Rattle.std.specs.Prelude.{◌≡◌, Ok, Err}
-use Rattle.std.specs.declared.result.Result.{Result}
+use Rattle.std.specs.Prelude.{◌≡◌, Ok, Err, Result}
 use Rattle.duct_system.specs.declared.error.Error.{Error}
 use Rattle.duct_system.specs.declared.error.Error.TheVariants.{Memory}
 use Rattle.duct_start.specs.TreeView.{ModifierView, TreeView, around, pipe}

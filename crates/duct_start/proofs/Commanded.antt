@@ -1,6 +1,5 @@
 -- What a command adds to a plan.
-use Rattle.std.proofs.Common.{◌≡◌, ℕ, List, [], ◌∷◌, ◌++◌, refl, append_assoc}
-use Rattle.std.specs.Prelude.{Bool, true, false, if◌then◌else◌}
+use Rattle.std.proofs.Common.{◌≡◌, ℕ, List, [], ◌∷◌, ◌++◌, refl, append_assoc, Bool, true, false, if◌then◌else◌}
 use Rattle.duct_start.specs.Surroundings.{Surroundings}
 use Rattle.duct_start.specs.Plan.{Plan, with_item, with_command, is_canonical, program_of}
 use Rattle.duct_start.specs.Step.{Item, AskCanonicalize, AskSpawn}

@@ -1,6 +1,5 @@
 -- A duplicate of a caller's end comes from that end, if no request got that end's number.
-use Rattle.std.proofs.Common.{◌≡◌, ℕ, ◌≤◌, List, [], ◌∷◌, subst, ap, ◌∙◌, arith, inl, inr}
-use Rattle.std.specs.Prelude.{Ok, reverse, ◌==◌, false}
+use Rattle.std.proofs.Common.{◌≡◌, ℕ, ◌≤◌, List, [], ◌∷◌, subst, ap, ◌∙◌, arith, inl, inr, Ok, reverse, ◌==◌, false}
 use Rattle.duct_system.specs.EntryView.{EntryView, Pipe, OpenRead, Create, Duplicate, Parent}
 use Rattle.duct_system.specs.Ledger.{opened_numbers, count_of}
 use Rattle.duct_system.specs.Origin.{Lent, origin, origin_before}

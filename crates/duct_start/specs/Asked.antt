@@ -1,7 +1,5 @@
 -- The spec and the streams that a tree gives a command, before its hooks.
-use Rattle.std.specs.Prelude.{ℕ, List, [], ◌∷◌, ◌≡◌, None, Some, slice_index, slice_get, flat_map}
-use Rattle.std.specs.Option.{option_to_list}
-use Rattle.std.specs.declared.option.Option.{Option}
+use Rattle.std.specs.Prelude.{ℕ, List, [], ◌∷◌, ◌≡◌, None, Some, slice_index, slice_get, flat_map, option_to_list, Option}
 use Rattle.duct_system.specs.Ledger.{opened_by}
 use Rattle.duct_system.specs.EntryView.{EntryView}
 use Rattle.duct_system.specs.Origin.{Origin, Opened, ParentOf, Lent}

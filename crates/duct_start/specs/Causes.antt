@@ -1,7 +1,5 @@
 -- Why a start may fail.
-use Rattle.std.specs.Prelude.{ℕ, ◌-◌, List, ◌≡◌, ◌⊎◌, length, filter, not, slice_get, Some}
-use Rattle.std.specs.declared.option.Option.{Option}
-use Rattle.std.specs.Option.{option_and_then}
+use Rattle.std.specs.Prelude.{ℕ, ◌-◌, List, ◌≡◌, ◌⊎◌, length, filter, not, slice_get, Some, option_and_then, Option}
 use Rattle.duct_system.specs.EntryView.{EntryView}
 use Rattle.duct_system.specs.Trace.{trace, is_close, fault_of}
 use Rattle.duct_system.specs.declared.error.Error.{Error}

@@ -1,7 +1,6 @@
 -- How the hooks of a command change its spec and its streams, the outermost hook first, and when
 -- one of them stops the start.
-use Rattle.std.specs.Prelude.{ℕ, List, [], ◌∷◌, ◌≡◌, ◌⊎◌, length, map, slice_get, Some, None, nat_lt, if◌then◌else◌}
-use Rattle.std.specs.declared.option.Option.{Option}
+use Rattle.std.specs.Prelude.{ℕ, List, [], ◌∷◌, ◌≡◌, ◌⊎◌, length, map, slice_get, Some, None, nat_lt, if◌then◌else◌, Option}
 use Rattle.duct_system.specs.Origin.{Origin, Lent}
 use Rattle.duct_system.specs.SpecView.{SpecView, GivesNothing}
 use Rattle.duct_system.specs.declared.error.Error.{Error}

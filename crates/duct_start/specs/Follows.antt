@@ -1,7 +1,6 @@
 -- When the entries that a start added to the journal follow a plan, as a whole or up to the first
 -- refused request.
-use Rattle.std.specs.Prelude.{ℕ, ◌+◌, ◌-◌, List, [], ◌∷◌, ◌≡◌, length, map, slice_get, Ok, Some, if◌then◌else◌}
-use Rattle.std.specs.declared.option.Option.{Option}
+use Rattle.std.specs.Prelude.{ℕ, ◌+◌, ◌-◌, List, [], ◌∷◌, ◌≡◌, length, map, slice_get, Ok, Some, if◌then◌else◌, Option}
 use Rattle.duct_system.specs.EntryView.{EntryView, Environment, Pipe, OpenRead, Create, Canonicalize, Spawn, Feed, Drain, Reader}
 use Rattle.duct_system.specs.Origin.{Origin, Opened, origin}
 use Rattle.duct_system.specs.SpecView.{SpecView, Vars}

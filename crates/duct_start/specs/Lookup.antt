@@ -1,7 +1,6 @@
 -- The surroundings of a command, looked up node by node on its path to the root.
-use Rattle.std.specs.Prelude.{ℕ, List, [], ◌∷◌, ◌++◌, None}
+use Rattle.std.specs.Prelude.{ℕ, List, [], ◌∷◌, ◌++◌, None, Option}
 use Rattle.std.specs.Option.{option_or}
-use Rattle.std.specs.declared.option.Option.{Option}
 use Rattle.duct_system.specs.declared.spec.Stream.{Stream}
 use Rattle.duct_system.specs.declared.spec.Stream.TheVariants.{In, Out, Err}
 use Rattle.duct_start.specs.Surroundings.{Surroundings, Target, Parents, VariableChange}

@@ -1,6 +1,5 @@
 -- The plan of a start: the requests that it makes to the system, computed from the tree alone.
-use Rattle.std.specs.Prelude.{ℕ, Bool, List, [], ◌∷◌, ◌++◌, length, Some, None, is_some, if◌then◌else◌, slice_get, unwrap_or}
-use Rattle.std.specs.declared.option.Option.{Option}
+use Rattle.std.specs.Prelude.{ℕ, Bool, List, [], ◌∷◌, ◌++◌, length, Some, None, is_some, if◌then◌else◌, slice_get, unwrap_or, Option}
 use Rattle.duct_base.specs.Executable.{asks_canonical}
 use Rattle.duct_system.specs.declared.system.Side.{Side}
 use Rattle.duct_status.specs.PerSide.{at_side, with_side}

@@ -1,6 +1,5 @@
 -- What a node does, as one row for each kind. All else about a kind of node is read off its row.
-use Rattle.std.specs.Prelude.{ℕ, List, Some, None}
-use Rattle.std.specs.declared.option.Option.{Option}
+use Rattle.std.specs.Prelude.{ℕ, List, Some, None, Option}
 use Rattle.duct_system.specs.declared.system.Side.{Side}
 use Rattle.duct_system.specs.declared.system.Side.TheVariants as side
 use Rattle.duct_start.specs.Surroundings.{VariableChange, Sets, Removes, Replaces}

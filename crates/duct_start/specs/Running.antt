@@ -1,7 +1,5 @@
 -- What contracts see of a running start, and which children and workers of the journal it holds.
-use Rattle.std.specs.Prelude.{Bool, List, ◌++◌, ◌≡◌, map, is_some, All, ℕ, [], ◌∷◌}
-use Rattle.std.specs.Option.{option_to_list}
-use Rattle.std.specs.declared.option.Option.{Option}
+use Rattle.std.specs.Prelude.{Bool, List, ◌++◌, ◌≡◌, map, is_some, All, ℕ, [], ◌∷◌, option_to_list, Option}
 use Rattle.duct_system.specs.Child.{ChildView, IsUnasked}
 use Rattle.duct_system.specs.Job.{JobView, unpolled_job}
 use Rattle.duct_system.specs.EntryView.{EntryView, Reader}

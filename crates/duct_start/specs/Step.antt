@@ -1,7 +1,6 @@
 -- What one node of a tree does: the requests that it makes, how it redirects streams, and what it
 -- sets of folder, variables and hooks.
-use Rattle.std.specs.Prelude.{ℕ, List, [], ◌∷◌, Some, None}
-use Rattle.std.specs.declared.option.Option.{Option}
+use Rattle.std.specs.Prelude.{ℕ, List, [], ◌∷◌, Some, None, Option}
 use Rattle.duct_system.specs.declared.spec.Stream.{Stream}
 use Rattle.duct_system.specs.declared.spec.Stream.TheVariants.{In, Out, Err}
 use Rattle.duct_system.specs.declared.system.Side.{Side}

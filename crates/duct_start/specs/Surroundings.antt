@@ -1,7 +1,5 @@
 -- The surroundings of a command: what it finds on its path to the root.
-use Rattle.std.specs.Prelude.{ℕ, List, Some, None, if◌then◌else◌, [], ◌∷◌}
-use Rattle.std.specs.declared.option.Option.{Option}
-use Rattle.std.specs.Option.{option_map}
+use Rattle.std.specs.Prelude.{ℕ, List, Some, None, if◌then◌else◌, [], ◌∷◌, option_map, Option}
 use Rattle.duct_system.specs.Name.{is_same_name}
 use Rattle.duct_system.specs.SpecView.{Vars, variable_in, said_of, spelled}
 use Rattle.duct_system.specs.declared.spec.Stream.{Stream}

@@ -1,7 +1,6 @@
 -- Lists that repeat one report: joined, and as the latest reports before the first event.
-use Rattle.std.proofs.Common.{◌≡◌, ℕ, zero, suc, ◌+◌, List, [], ◌∷◌, ◌++◌, map, replicate, refl, ap, ◌∙◌, arith, zero-add, append_assoc, cond, Some, None}
+use Rattle.std.proofs.Common.{◌≡◌, ℕ, zero, suc, ◌+◌, List, [], ◌∷◌, ◌++◌, map, replicate, refl, ap, ◌∙◌, arith, zero-add, append_assoc, cond, Some, None, Option}
 use Rattle.std.specs.List.{range_with_len}
-use Rattle.std.specs.declared.option.Option.{Option}
 use Rattle.duct_system.specs.declared.system.Said.{Said}
 use Rattle.duct_system.specs.declared.system.Said.TheVariants as said
 use Rattle.duct_status.specs.declared.status.Drains.{Drains}

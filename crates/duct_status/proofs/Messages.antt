@@ -1,7 +1,6 @@
 -- What std's forms print of a failure is its message.
-use Rattle.std.specs.Prelude.{◌≡◌, ℕ, List, ◌++◌, codes, IfSome, Option, Some}
 use Rattle.std.specs.Fmt.{◌++?◌}
-use Rattle.std.proofs.Common.{subst, sym, ◌∙◌, append_assoc}
+use Rattle.std.proofs.Common.{subst, sym, ◌∙◌, append_assoc, ◌≡◌, ℕ, List, ◌++◌, codes, IfSome, Option, Some}
 use Rattle.duct_system.specs.declared.system.ExitStatus.{ExitStatus}
 use Rattle.duct_status.specs.Message.{status_text, IsMessage, printed_message}
 use Rattle.duct_status.specs.Form.{quoted_list}

@@ -1,11 +1,9 @@
 -- What std's formatting prints for a form is its text, where that text is promised.
-use Rattle.std.specs.Prelude.{ℕ, List, [], ◌∷◌, Bool, true, false, Some, None, Result, if◌then◌else◌}
-use Rattle.std.specs.declared.option.Option.{Option}
 use Rattle.std.specs.declared.fmt.Error.{Error}
 use Rattle.std.specs.declared.fmt.Formatter.{Formatter}
 use Rattle.std.specs.List.{list_all}
 use Rattle.std.specs.Fmt.{DisplaysOnOk, decimal}
-use Rattle.std.proofs.Common.{◌≡◌, refl, subst}
+use Rattle.std.proofs.Common.{◌≡◌, refl, subst, ℕ, List, [], ◌∷◌, Bool, true, false, Some, None, Result, if◌then◌else◌, Option}
 use Rattle.std.proofs.lemmas.Bool.{and_parts}
 use Rattle.duct_status.proofs.Quotes.{debug_str-printable, debug_list-listed, debug_list-printable}
 use Rattle.duct_status.specs.Form.{Form, plain, quote, numbers, texts, before, form_text, is_form_printable, printed}

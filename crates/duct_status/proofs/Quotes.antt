@@ -1,10 +1,8 @@
 -- What std's debug forms print of printable texts, and of lists of them.
-use Rattle.std.specs.Prelude.{ℕ, List, [], ◌∷◌, ◌++◌, map, codes, Bool, true, ◌&&◌, nat_le, Some}
-use Rattle.std.specs.declared.option.Option.{Option}
 use Rattle.std.specs.List.{list_all, flat_map}
 use Rattle.std.specs.Char.{is_ascii}
 use Rattle.std.specs.Fmt.{debug_str, debug_escape, debug_items, debug_list, comma_space}
-use Rattle.std.proofs.Common.{◌≡◌, ◌≤◌, refl, sym, subst, arith, append_assoc, rules, inl, inr}
+use Rattle.std.proofs.Common.{◌≡◌, ◌≤◌, refl, sym, subst, arith, append_assoc, rules, inl, inr, ℕ, List, [], ◌∷◌, ◌++◌, map, codes, Bool, true, ◌&&◌, nat_le, Some, Option}
 use Rattle.std.proofs.lemmas.Bool.{and_parts, and_from, leb-true, lt-ltb, le-ltb, ne_eqb, cases_eq}
 use Rattle.duct_status.specs.Form.{is_printable, escaped, quoted, listed, quoted_list}
 

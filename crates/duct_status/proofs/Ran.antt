@@ -1,8 +1,6 @@
 -- What holds of a core after each event of a list.
-use Rattle.std.proofs.Common.{◌≡◌, ℕ, suc, ◌+◌, ◌⊎◌, inl, inr, List, [], ◌∷◌, ◌++◌, length, refl, ap, sym, ◌∙◌, subst, arith, Bool, true, false, MatchBool, Some, None, append_assoc, ◌<◌, map, take, get_or}
+use Rattle.std.proofs.Common.{◌≡◌, ℕ, suc, ◌+◌, ◌⊎◌, inl, inr, List, [], ◌∷◌, ◌++◌, length, refl, ap, sym, ◌∙◌, subst, arith, Bool, true, false, MatchBool, Some, None, append_assoc, ◌<◌, map, take, get_or, IfSome, Option}
 use Rattle.std.proofs.lemmas.List.{append-nil, take_more, map-append}
-use Rattle.std.specs.Option.{IfSome}
-use Rattle.std.specs.declared.option.Option.{Option}
 use Rattle.duct_status.specs.declared.status.Drains.{Drains}
 use Rattle.duct_status.specs.declared.status.Event.{Event}
 use Rattle.duct_status.specs.declared.status.Reply.{Reply}

@@ -1,7 +1,6 @@
 -- The debug form of a list whose items are printed as what they are mapped to.
-use Rattle.std.specs.Prelude.{ℕ, List, [], ◌∷◌, map, Option, Some}
 use Rattle.std.specs.Fmt.{debug_items, debug_list, comma_space, ◌++?◌}
-use Rattle.std.proofs.Common.{◌≡◌, ap, refl}
+use Rattle.std.proofs.Common.{◌≡◌, ap, refl, ℕ, List, [], ◌∷◌, map, Option, Some}
 
 items_of_map : {X Y : Type 0} (f : Y → Option (List ℕ)) (g : X → Y) (lead : List ℕ) (xs : List X)
     → debug_items f lead (map g xs) ≡ debug_items (λ x. f (g x)) lead xs

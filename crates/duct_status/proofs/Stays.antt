@@ -1,11 +1,8 @@
 -- The final reply that a core stores still fits its reports after an event.
-use Rattle.std.proofs.Common.{◌≡◌, ℕ, List, ap, arith}
+use Rattle.std.proofs.Common.{◌≡◌, ℕ, List, ap, arith, Option, Vec, Global}
 use Rattle.std.specs.Arc.{arc_value}
 use Rattle.std.specs.Option.{ForSome, option_map}
-use Rattle.std.specs.declared.alloc.Global.{Global}
-use Rattle.std.specs.declared.option.Option.{Option}
 use Rattle.std.specs.declared.sync.Arc.{Arc}
-use Rattle.std.specs.declared.vec.Vec.{Vec}
 use Rattle.duct_system.specs.Job.{kept_after}
 use Rattle.duct_system.specs.declared.system.Said.{Said}
 use Rattle.duct_system.specs.declared.system.Side.{Side}

@@ -1,7 +1,6 @@
 -- A tree of commands that have ended, and the ways to them.
 use Rattle.std.specs.Prelude.{ℕ, ◌+◌, ◌⊎◌, Bool, true, false, List, Some, None, pos, slice_get}
-use Rattle.std.specs.declared.option.Option.{Option}
-use Rattle.std.proofs.Common.{inl, inr}
+use Rattle.std.proofs.Common.{inl, inr, Option}
 use Rattle.duct_system.specs.declared.system.ExitStatus.{ExitStatus}
 use Rattle.duct_system.specs.declared.system.ExitStatus.TheVariants.{Code}
 use Rattle.duct_status.specs.declared.status.Word.{Word}

@@ -1,12 +1,8 @@
 -- What the core stores: its reports, and an answer or a message that fits them.
-use Rattle.std.specs.Prelude.{◌≡◌, ℕ, Bool, true, false, List, [], Some, None, string_bytes}
-use Rattle.std.specs.Option.{option_map}
+use Rattle.std.specs.Prelude.{◌≡◌, ℕ, Bool, true, false, List, [], Some, None, string_bytes, option_map, Option, String, Vec}
 use Rattle.std.specs.Arc.{arc_value}
 use Rattle.std.specs.declared.alloc.Global.{Global}
-use Rattle.std.specs.declared.option.Option.{Option}
-use Rattle.std.specs.declared.string.String.{String}
 use Rattle.std.specs.declared.sync.Arc.{Arc}
-use Rattle.std.specs.declared.vec.Vec.{Vec}
 use Rattle.duct_system.specs.declared.system.Output.{Output}
 use Rattle.duct_system.specs.declared.system.Said.{Said}
 use Rattle.duct_status.specs.declared.status.Reply.{Reply}

@@ -1,8 +1,7 @@
 -- A text as a form of its parts: what it is where they are printable ASCII, and what std prints.
-use Rattle.std.specs.Prelude.{ℕ, List, [], ◌∷◌, ◌++◌, Bool, true, ◌&&◌, map, codes, Some, None, if◌then◌else◌, ◌==◌, nat_le, ◌||◌}
+use Rattle.std.specs.Prelude.{ℕ, List, [], ◌∷◌, ◌++◌, Bool, true, ◌&&◌, map, codes, Some, None, if◌then◌else◌, ◌==◌, nat_le, ◌||◌, Option}
 use Rattle.std.specs.Fmt.{◌++?◌, debug_list, debug_str, decimal}
 use Rattle.std.specs.List.{list_all, flat_map}
-use Rattle.std.specs.declared.option.Option.{Option}
 
 -- whether each character is printable ASCII: these are the texts whose debug form is promised
 abbrev pub is_printable : List ℕ → Bool

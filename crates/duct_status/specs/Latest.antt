@@ -1,7 +1,6 @@
 -- The latest reports of all commands and workers of a shape: taken from the whole list of events,
 -- and updated by one more event.
-use Rattle.std.specs.Prelude.{ℕ, Bool, true, false, ◌==◌, if◌then◌else◌, List, [], ◌∷◌, Some, None, zero, suc, nat_lt, is_some, map, slice_get}
-use Rattle.std.specs.declared.option.Option.{Option}
+use Rattle.std.specs.Prelude.{ℕ, Bool, true, false, ◌==◌, if◌then◌else◌, List, [], ◌∷◌, Some, None, zero, suc, nat_lt, is_some, map, slice_get, option_map, Option}
 use Rattle.duct_system.specs.declared.system.ExitStatus.{ExitStatus}
 use Rattle.duct_system.specs.declared.system.Said.{Said}
 use Rattle.duct_system.specs.declared.system.Said.TheVariants as said
@@ -11,7 +10,6 @@ use Rattle.duct_status.specs.declared.status.Word.{Word}
 use Rattle.duct_status.specs.declared.status.Word.TheVariants as word
 use Rattle.duct_status.specs.EventView.{EventView, from_command, from_input, from_drain, conclude}
 use Rattle.std.specs.List.{range_with_len}
-use Rattle.std.specs.Option.{option_map}
 use Rattle.duct_system.specs.declared.system.Side.TheVariants.{Out, Err}
 use Rattle.duct_status.specs.declared.status.Drains.{Drains}
 use Rattle.duct_status.specs.PerSide.{at_side, with_side}

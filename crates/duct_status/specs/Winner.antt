@@ -1,6 +1,5 @@
 -- The winning command: the one that beats every other one.
-use Rattle.std.specs.Prelude.{◌≡◌, ℕ, ◌<◌, ◌⊎◌, min, if◌then◌else◌, Bool, not, ◌&&◌, ◌||◌}
-use Rattle.std.proofs.Common.{inl, inr}
+use Rattle.std.proofs.Common.{inl, inr, ◌≡◌, ℕ, ◌<◌, ◌⊎◌, min, if◌then◌else◌, Bool, not, ◌&&◌, ◌||◌}
 use Rattle.duct_system.specs.Status.{is_success}
 use Rattle.duct_status.specs.Endings.{Endings, ending, pipe, unchecked, Way, status_at, is_checked}
 

@@ -1,9 +1,6 @@
 -- What is written to in an `Arc` of words: the words, or clones of them where they are shared.
-use Rattle.std.specs.Prelude.{List, [], ◌∷◌, map, string_bytes, vec_len}
 use Rattle.std.specs.List.{AllZip}
-use Rattle.std.specs.declared.string.String.{String}
-use Rattle.std.specs.declared.vec.Vec.{Vec}
-use Rattle.std.proofs.Common.{◌≡◌, ◌⊎◌, inl, inr, refl, ap}
+use Rattle.std.proofs.Common.{◌≡◌, ◌⊎◌, inl, inr, refl, ap, List, [], ◌∷◌, map, string_bytes, vec_len, String, Vec}
 
 -- a clone has the same bytes
 abbrev IsCloneOf : {Z : Type 0} → String Z → String Z → Type 0

@@ -1,13 +1,11 @@
 -- Variables that are inserted into a map and removed from it, by their names and the texts of their
 -- values.
-use Rattle.std.specs.Prelude.{ℕ, List, [], ◌∷◌, map, filter, not, string_bytes, true, false, cond}
 use Rattle.std.specs.BTreeMap.{insert_entry}
 use Rattle.std.specs.Ordering.{match_ordering}
 use Rattle.std.specs.declared.cmp.Ordering.TheVariants.{Less, Equal, Greater}
-use Rattle.std.specs.declared.string.String.{String}
 use Rattle.std.specs.List.Sorted.{IsStrictlySortedBy}
 use Rattle.std.specs.Map.{keys_of}
-use Rattle.std.proofs.Common.{◌≡◌, ap, refl, sym, subst}
+use Rattle.std.proofs.Common.{◌≡◌, ap, refl, sym, subst, ℕ, List, [], ◌∷◌, map, filter, not, string_bytes, true, false, cond, String}
 use Rattle.duct_system.specs.Name.{is_same_name, name_cmp}
 use Rattle.duct_system.specs.SpecView.{AreOrdered, var_view, with_var, without_var}
 

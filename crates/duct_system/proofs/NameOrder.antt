@@ -1,12 +1,11 @@
 -- The order of two texts at the end of the shorter one.
-use Rattle.std.specs.Prelude.{ℕ, suc, List, [], ◌∷◌, ◌<◌, length, map, min, drop}
 use Rattle.std.specs.Char.{to_ascii_lowercase}
 use Rattle.std.specs.Cmp.{nat_cmp_is}
 use Rattle.std.specs.Cmp.Lexicographic.{slice_cmp}
 use Rattle.std.specs.Ordering.{nat_cmp, MatchOrdering}
 use Rattle.std.specs.declared.cmp.Ordering.{Ordering}
 use Rattle.std.specs.declared.cmp.Ordering.TheVariants.{Less, Equal, Greater}
-use Rattle.std.proofs.Common.{◌≡◌, refl, subst, sym, ap, arith}
+use Rattle.std.proofs.Common.{◌≡◌, refl, subst, sym, ap, arith, ℕ, suc, List, [], ◌∷◌, ◌<◌, length, map, min, drop}
 use native.Mathlib.Numerals.{unary_clauses}
 
 -- the order of what is left of two texts from this place on

@@ -1,7 +1,5 @@
 -- What contracts see of a child, and how a poll and an order change it.
-use Rattle.std.specs.Prelude.{ℕ, Bool, true, false, ◌+◌, ◌-◌, ◌^◌, min, List, [], ◌∷◌, ◌++◌, ◌≡◌, ◌⊎◌, Ok, Err, Some, None, IfSome}
-use Rattle.std.specs.declared.option.Option.{Option}
-use Rattle.std.specs.declared.result.Result.{Result}
+use Rattle.std.specs.Prelude.{ℕ, Bool, true, false, ◌+◌, ◌-◌, ◌^◌, min, List, [], ◌∷◌, ◌++◌, ◌≡◌, ◌⊎◌, Ok, Err, Some, None, IfSome, Option, Result}
 use Rattle.duct_system.specs.declared.system.Fault.{Fault}
 use Rattle.duct_system.specs.declared.system.Kind.TheVariants.{OutOfMemory}
 use Rattle.duct_system.specs.declared.system.ExitStatus.{ExitStatus}

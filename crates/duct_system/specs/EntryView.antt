@@ -1,7 +1,6 @@
 -- An entry of the journal as contracts see it: texts as lists of bytes, ends and children by their
 -- numbers, a spec as the record of its parts.
-use Rattle.std.specs.Prelude.{ℕ, List, map, string_bytes, Ok, Err}
-use Rattle.std.specs.declared.result.Result.{Result}
+use Rattle.std.specs.Prelude.{ℕ, List, map, string_bytes, Ok, Err, Result}
 use Rattle.duct_system.specs.SpecView.{SpecView, Vars, pair_text}
 use Rattle.duct_system.specs.declared.system.Fault.{Fault}
 use Rattle.duct_system.specs.declared.system.Side.{Side}

@@ -1,8 +1,7 @@
 -- What contracts see of a job, and how a poll changes it.
-use Rattle.std.specs.Prelude.{ℕ, ◌≡◌}
+use Rattle.std.specs.Prelude.{ℕ, ◌≡◌, Vec}
 use Rattle.std.specs.declared.alloc.Global.{Global}
 use Rattle.std.specs.declared.sync.Arc.{Arc}
-use Rattle.std.specs.declared.vec.Vec.{Vec}
 use Rattle.std.specs.Arc.{arc_value}
 use Rattle.duct_system.specs.Child.{one_more}
 use Rattle.duct_system.specs.declared.system.Said.{Said}

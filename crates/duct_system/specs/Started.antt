@@ -1,6 +1,5 @@
 -- The children and the workers that the entries of a journal started.
-use Rattle.std.specs.Prelude.{ℕ, List, [], ◌∷◌, Ok}
-use Rattle.std.specs.List.{flat_map}
+use Rattle.std.specs.Prelude.{ℕ, List, [], ◌∷◌, Ok, flat_map}
 use Rattle.duct_system.specs.EntryView.{EntryView, Spawn, Feed, Drain}
 
 -- the number of the child that an entry started

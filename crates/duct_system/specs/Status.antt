@@ -1,6 +1,5 @@
 -- The success, the code and the signal of an exit status.
-use Rattle.std.specs.Prelude.{Bool, true, false, ℤ, pos, zero, Some, None}
-use Rattle.std.specs.declared.option.Option.{Option}
+use Rattle.std.specs.Prelude.{Bool, true, false, ℤ, pos, zero, Some, None, Option}
 use Rattle.duct_system.specs.declared.system.ExitStatus.{ExitStatus}
 use Rattle.duct_system.specs.declared.system.ExitStatus.TheVariants.{Code, Signal}
 

@@ -1,6 +1,5 @@
 -- What a call added to the journal, and which of these entries a plan covers.
-use Rattle.std.specs.Prelude.{Bool, true, false, List, [], ◌∷◌, ◌≡◌, length, drop, filter, Err, Some, None, IfSome}
-use Rattle.std.specs.declared.option.Option.{Option}
+use Rattle.std.specs.Prelude.{Bool, true, false, List, [], ◌∷◌, ◌≡◌, length, drop, filter, Err, Some, None, IfSome, Option}
 use Rattle.duct_system.specs.EntryView.{EntryView, Environment, Pipe, OpenRead, Create, Duplicate, Parent, Canonicalize, Spawn, Feed, Drain, Close}
 use Rattle.duct_system.specs.declared.system.Fault.{Fault}
 

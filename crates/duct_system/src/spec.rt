@@ -1,7 +1,6 @@
 //! The spec of a command: the words, folder, variables and streams that its child is started with.
 ghost use Rattle.std.specs.Arc.{arc_value};
-ghost use Rattle.std.specs.Prelude.{◌≡◌, ◌≢◌, [], ◌∷◌, ◌++◌, map, string_bytes, Some, IfOk, IfErr, IsOkUnless, OnOk, OnErr};
-ghost use Rattle.std.specs.Option.{option_copied, option_map};
+ghost use Rattle.std.specs.Prelude.{◌≡◌, ◌≢◌, [], ◌∷◌, ◌++◌, map, string_bytes, Some, IfOk, IfErr, IsOkUnless, OnOk, OnErr, option_copied, option_map};
 ghost use Rattle.duct_system.specs.SpecView.{SpecView, AreOrdered, value_of, with_var, without_var, var_view, texts_of, port_of, gives, GivesNothing};
 ghost use Rattle.duct_system.specs.declared.system.Fault.{Fault};
 
@@ -51,8 +50,7 @@ pub struct CommandSpec {
 
 impl Model for CommandSpec {
     ghost use Rattle.std.specs.Arc.{arc_value};
-    ghost use Rattle.std.specs.Prelude.{map, string_bytes};
-    ghost use Rattle.std.specs.Option.{option_map};
+    ghost use Rattle.std.specs.Prelude.{map, string_bytes, option_map};
     ghost use Rattle.duct_system.specs.SpecView.{SpecView, var_view};
 
     ghost Value = { SpecView };

@@ -1,8 +1,7 @@
 //! What contracts read of a system and its handles, under one name.
 ghost use Rattle.std.specs.declared.alloc.Global.{Global};
 ghost use Rattle.std.specs.declared.sync.Arc.{Arc};
-ghost use Rattle.std.specs.declared.vec.Vec.{Vec};
-ghost use Rattle.std.specs.Prelude.{ℕ};
+ghost use Rattle.std.specs.Prelude.{ℕ, Vec};
 ghost use Rattle.duct_system.specs.SystemViews.{SystemViews};
 
 use crate::system::System;

@@ -1,6 +1,5 @@
 -- A sum over tasks of which one is changed.
-use Rattle.std.specs.Prelude.{ℕ, Bool, ◌||◌, true, false, List, length, get_or, set, sum_by}
-use Rattle.std.proofs.Common.{◌≡◌, ◌+◌, ◌<◌, ◌≤◌, ap, arith, refl}
+use Rattle.std.proofs.Common.{◌≡◌, ◌+◌, ◌<◌, ◌≤◌, ap, arith, refl, ℕ, Bool, ◌||◌, true, false, List, length, get_or, set, sum_by}
 use Rattle.std.proofs.lemmas.List.Sums.{get_or-le-sum_by, sum_by-set}
 
 pub changed : {T : Type 0} (f : T → ℕ) (before after : T) (at : ℕ) (tasks : List T)

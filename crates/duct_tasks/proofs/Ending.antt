@@ -1,9 +1,6 @@
 -- What was late, by the numbers of its journal.
-use Rattle.std.specs.Prelude.{ℕ, List, [], ◌++◌, IfNone, IfSome, Some, None, map}
-use Rattle.std.specs.Option.{option_map, option_to_list}
-use Rattle.std.specs.declared.option.Option.{Option}
 use Rattle.std.specs.declared.time.Duration.{Duration}
-use Rattle.std.proofs.Common.{◌≡◌, ◌∙◌, ap, refl, subst, sym}
+use Rattle.std.proofs.Common.{◌≡◌, ◌∙◌, ap, refl, subst, sym, ℕ, List, [], ◌++◌, IfNone, IfSome, Some, None, map, option_map, option_to_list, Option}
 use Rattle.duct_base.specs.Pool.{PoolView}
 use Rattle.duct_system.specs.EntryView.{EntryView}
 use Rattle.duct_system.specs.Started.{drains_in}

@@ -1,6 +1,5 @@
 -- How all tasks ended, once none runs.
-use Rattle.std.specs.Prelude.{ℕ, suc, Bool, true, false, List, [], ◌∷◌, ◌++◌, Contains, length, map, sum_by, Ok, Err}
-use Rattle.std.proofs.Common.{◌≡◌, ◌+◌, ◌<◌, ◌≤◌, ◌⊎◌, refl, ap, sym, ◌∙◌, subst, inl, inr, arith}
+use Rattle.std.proofs.Common.{◌≡◌, ◌+◌, ◌<◌, ◌≤◌, ◌⊎◌, refl, ap, sym, ◌∙◌, subst, inl, inr, arith, ℕ, suc, Bool, true, false, List, [], ◌∷◌, ◌++◌, Contains, length, map, sum_by, Ok, Err}
 use Rattle.std.proofs.lemmas.List.{append-nil, append_assoc, length-map, map-append}
 use Rattle.std.proofs.lemmas.List.Sums.{sum_by-cons}
 use Rattle.duct_base.specs.Pool.{PoolView, counted}

@@ -1,7 +1,5 @@
 -- What runs until it has ended or is stopped, and is then started again.
-use Rattle.std.specs.Prelude.{ℕ, suc, Bool, true, false, Some, None}
-use Rattle.std.specs.declared.option.Option.{Option}
-use Rattle.std.proofs.Common.{◌≡◌, ◌+◌, ◌<◌, ◌≤◌, refl, ap, sym, ◌∙◌, subst, inl, inr, arith}
+use Rattle.std.proofs.Common.{◌≡◌, ◌+◌, ◌<◌, ◌≤◌, refl, ap, sym, ◌∙◌, subst, inl, inr, arith, ℕ, suc, Bool, true, false, Some, None, Option}
 use Rattle.duct_base.proofs.Sieving.{counted_more}
 use Rattle.duct_base.specs.Pool.{PoolView, counted}
 use Rattle.duct_start.specs.Chain.{Allows, Refuses}

@@ -1,8 +1,6 @@
 -- Children that are sent signal 15 and are then polled for some time.
 use Rattle.std.specs.Prelude.{ℕ, pos, Bool, false, List, [], ◌∷◌, ◌++◌, All, map, is_some, MatchOption, Ok, Some, None}
-use Rattle.std.specs.Option.{option_map}
-use Rattle.std.specs.declared.option.Option.{Option}
-use Rattle.std.proofs.Common.{◌≡◌, refl, ap, sym, subst, inl, inr}
+use Rattle.std.proofs.Common.{◌≡◌, refl, ap, sym, subst, inl, inr, option_map, Option}
 use Rattle.std.proofs.lemmas.List.Elements.{All-cons, All-head, All-nil, All-tail}
 use Rattle.duct_system.specs.Child.{Answer, ChildView, Obeyed, OrdersChild, PollsChild, child_after, ending_after}
 use Rattle.duct_system.specs.Job.{JobView}

@@ -1,7 +1,5 @@
 -- Turns of tasks, of which one is added, or has gone on.
-use Rattle.std.specs.Prelude.{ℕ, zero, suc, Bool, if◌then◌else◌, List, [], ◌∷◌, ◌++◌, length, Ok, Err, IfSome, get_or, set}
-use Rattle.std.specs.declared.option.Option.{Option}
-use Rattle.std.proofs.Common.{◌≡◌, ◌+◌, ◌<◌, refl, ap, sym, ◌∙◌, subst, inl, inr, arith}
+use Rattle.std.proofs.Common.{◌≡◌, ◌+◌, ◌<◌, refl, ap, sym, ◌∙◌, subst, inl, inr, arith, ℕ, zero, suc, Bool, if◌then◌else◌, List, [], ◌∷◌, ◌++◌, length, Ok, Err, IfSome, get_or, set, Option}
 use Rattle.std.proofs.lemmas.List.{length-map}
 use Rattle.duct_base.proofs.Sieving.{counted_more}
 use Rattle.duct_base.specs.Pool.{PoolView, counted}

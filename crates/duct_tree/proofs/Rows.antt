@@ -1,7 +1,5 @@
 -- Entering and leaving a node by its row gives the list of that node.
-use Rattle.std.proofs.Common.{◌≡◌, ℕ, ◌+◌, List, [], ◌∷◌, ◌++◌, length, refl, ap, subst, ◌∙◌, append_assoc, arith, length-append}
-use Rattle.std.specs.Prelude.{Some, None}
-use Rattle.std.specs.declared.option.Option.{Option}
+use Rattle.std.proofs.Common.{◌≡◌, ℕ, ◌+◌, List, [], ◌∷◌, ◌++◌, length, refl, ap, subst, ◌∙◌, append_assoc, arith, length-append, Some, None, Option}
 use Rattle.duct_run.specs.Actions.{ActionOf}
 use Rattle.duct_run.specs.Flat.{depth_inside, sources_inside, actions_around}
 use Rattle.duct_run.specs.ActionList.{ActionListView, ScopeEntry, list_of_subtree, next_index, scope_index, with_scope_entry}

@@ -1,6 +1,5 @@
 -- The list that the first pass of a start makes, as contracts see it, and how it grows.
-use Rattle.std.specs.Prelude.{ℕ, ◌+◌, List, [], ◌∷◌, ◌++◌, length, Some, None}
-use Rattle.std.specs.declared.option.Option.{Option}
+use Rattle.std.specs.Prelude.{ℕ, ◌+◌, List, [], ◌∷◌, ◌++◌, length, Some, None, Option}
 use Rattle.duct_run.specs.Actions as action
 use Rattle.duct_run.specs.Actions.{ActionOf, PerStream}
 use Rattle.duct_run.specs.ActionList.{ActionListView, ScopeEntry, list_of_subtree}

@@ -1,6 +1,5 @@
 -- What a node does, as contracts see it.
-use Rattle.std.specs.Prelude.{Some, None}
-use Rattle.std.specs.declared.option.Option.{Option}
+use Rattle.std.specs.Prelude.{Some, None, Option}
 use Rattle.std.specs.Arc.{arc_value}
 use Rattle.duct_system.specs.declared.system.Side.{Side}
 use Rattle.duct_start.specs.Row as row

@@ -1,11 +1,9 @@
 -- A character that takes several bytes is read byte by byte as it is read at once.
-use Rattle.std.proofs.Common.{◌≡◌, ℕ, suc, ◌+◌, ◌≤◌, ◌<◌, Bool, true, false, cond, List, [], ◌∷◌, ◌++◌, length, Ok, Err, refl, sym, ap, subst, ◌∙◌, append_assoc, add-one, arith, ◌/◌, ⊎_elim}
+use Rattle.std.proofs.Common.{◌≡◌, ℕ, suc, ◌+◌, ◌≤◌, ◌<◌, Bool, true, false, cond, List, [], ◌∷◌, ◌++◌, length, Ok, Err, refl, sym, ap, subst, ◌∙◌, append_assoc, add-one, arith, ◌/◌, ⊎_elim, ◌≢◌, ◌==◌, nat_lt, Result}
 use Rattle.std.proofs.lemmas.Bool.{cases_lt}
 use Rattle.std.proofs.lemmas.Bool.Decides.{nat_tests}
 use Rattle.std.proofs.lemmas.Str.{encode_ascii}
 use Rattle.std.proofs.Math.Utf8.{encode, next}
-use Rattle.std.specs.Prelude.{◌≢◌, ◌==◌, nat_lt}
-use Rattle.std.specs.declared.result.Result.{Result}
 use Rattle.duct_program.specs.Parsed.{◌>>=◌}
 use Rattle.duct_words.specs.Quote.{between}
 use Rattle.duct_words.specs.Split.{RefusesAs, State, TokenView, bare, kind_of, ordinary, pushed, read, step}

@@ -1,11 +1,9 @@
 -- The tokens of quoted words are these words.
-use Rattle.std.proofs.Common.{◌≡◌, ℕ, suc, Bool, true, false, not, List, [], ◌∷◌, ◌++◌, map, Ok, refl, sym, ap, subst, ◌∙◌, append_assoc, length, ⊎_elim, inl, inr, ◌⊎◌}
+use Rattle.std.proofs.Common.{◌≡◌, ℕ, suc, Bool, true, false, not, List, [], ◌∷◌, ◌++◌, map, Ok, refl, sym, ap, subst, ◌∙◌, append_assoc, length, ⊎_elim, inl, inr, ◌⊎◌, ◌≢◌, ◌==◌, ◌&&◌, if◌then◌else◌, Result}
 use Rattle.std.proofs.lemmas.Bool.{and_parts, cases_Bool}
 use Rattle.std.proofs.lemmas.Bool.Decides.{eqb_tells}
 use Rattle.std.proofs.lemmas.List.{append-nil}
 use Rattle.std.specs.List.{list_all}
-use Rattle.std.specs.Prelude.{◌≢◌, ◌==◌, ◌&&◌, if◌then◌else◌}
-use Rattle.std.specs.declared.result.Result.{Result}
 use Rattle.duct_words.proofs.Characters.{between_one}
 use Rattle.duct_program.specs.Parsed.{◌>>=◌}
 use Rattle.duct_words.specs.Quote.{between, further, has_no_quotes, is_bare, is_bare_byte, is_reserved, quote_of, quoted}

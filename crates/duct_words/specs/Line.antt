@@ -1,10 +1,7 @@
 -- The expression of a text, read one token after the other, or why it has none; and what contracts
 -- see of what was read so far.
-use Rattle.std.specs.Prelude.{◌≡◌, ℕ, List, [], ◌∷◌, ◌++◌, Some, None, Ok, Err}
-use Rattle.std.specs.Option.{option_map}
+use Rattle.std.specs.Prelude.{◌≡◌, ℕ, List, [], ◌∷◌, ◌++◌, Some, None, Ok, Err, option_map, Option, Result}
 use Rattle.std.specs.Result.{result_map_both}
-use Rattle.std.specs.declared.option.Option.{Option}
-use Rattle.std.specs.declared.result.Result.{Result}
 use Rattle.duct_system.specs.declared.spec.Stream.{Stream}
 use Rattle.duct_start.specs.TreeView.{TreeView, pipe}
 use Rattle.duct.specs.TreeView.{tree_view}

@@ -1,10 +1,8 @@
 -- What a shell takes a character for, as its code says; the tokens of a text, read one byte after the
 -- other, or why it has none; and what contracts see of tokens, and of what was read so far.
-use Rattle.std.specs.Prelude.{◌≡◌, ℕ, suc, List, [], ◌∷◌, ◌++◌, Bool, true, false, ◌==◌, ◌&&◌, ◌||◌, not, Ok, Err, if◌then◌else◌, codes, map, string_bytes}
+use Rattle.std.specs.Prelude.{◌≡◌, ℕ, suc, List, [], ◌∷◌, ◌++◌, Bool, true, false, ◌==◌, ◌&&◌, ◌||◌, not, Ok, Err, if◌then◌else◌, codes, map, string_bytes, bytes_eq, Result}
 use Rattle.std.specs.Char.{is_ascii_alphanumeric, is_ascii_digit}
 use Rattle.std.specs.List.{list_all, list_any}
-use Rattle.std.specs.Str.{bytes_eq}
-use Rattle.std.specs.declared.result.Result.{Result}
 use Rattle.duct_system.specs.declared.spec.Stream.{Stream}
 use Rattle.duct_system.specs.declared.spec.Stream.TheVariants as streams
 use Rattle.duct_program.specs.Parsed.{◌>>=◌}

@@ -1,6 +1,5 @@
 -- A start with its stdout at a caller's end that came before it, and with no other end.
-use Rattle.std.proofs.Common.{◌≡◌, ℕ, ◌<◌, List, [], ◌∷◌, subst, sym}
-use Rattle.std.specs.List.{All}
+use Rattle.std.proofs.Common.{◌≡◌, ℕ, ◌<◌, List, [], ◌∷◌, subst, sym, All}
 use Rattle.std.proofs.lemmas.List.Elements.{All-cons, All-nil}
 use Rattle.duct_system.specs.Journal.{JournalView}
 use Rattle.duct_system.specs.Trace.{segment}

@@ -80,7 +80,7 @@ impl<'t, 'r, R: Wait + Threads, M: Machine> Calls<'t, 'r, R, M> {
             "run" => self.run(text),
             "read" => self.read(text),
             "tasks" | "keep" => self.tasks(key, text),
-            "perform" => self.perform(text),
+            "perform" => self.run_program(text),
             _ => self.start(key, text),
         };
         let after = self.counts();
@@ -265,7 +265,7 @@ impl<'t, 'r, R: Wait + Threads, M: Machine> Calls<'t, 'r, R, M> {
         Ok(push_read(&mut self.answers, &read)?)
     }
 
-    fn perform(&mut self, text: &str) -> Result<(), TableError> {
+    fn run_program(&mut self, text: &str) -> Result<(), TableError> {
         let room = if text == "unwritten" { 0 } else { ROOM };
         let (system, _, _) = self.machine.stage();
         self.is_kept = true;

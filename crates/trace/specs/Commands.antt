@@ -1,7 +1,6 @@
 -- What `trace judge` says of words and of the entries of a journal, and what `trace replay` ran.
-use Rattle.std.specs.Prelude.{ℕ, List, [], ◌≡◌, Ok, None, map, string_bytes}
+use Rattle.std.specs.Prelude.{ℕ, List, [], ◌≡◌, Ok, None, map, string_bytes, String}
 use Rattle.std.specs.declared.alloc.Global.{Global}
-use Rattle.std.specs.declared.string.String.{String}
 use Rattle.duct_system.specs.EntryView.{EntryView}
 use Rattle.duct_system.specs.Journal.{JournalView}
 use Rattle.duct_start.specs.Chain.{Allows, Refuses}

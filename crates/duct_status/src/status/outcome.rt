@@ -1,6 +1,5 @@
 //! The outcome of the latest reports.
-ghost use Rattle.std.specs.Prelude.{◌≡◌};
-ghost use Rattle.std.specs.Option.{option_map};
+ghost use Rattle.std.specs.Prelude.{◌≡◌, option_map};
 ghost use Rattle.duct_status.specs.Bytes.{lent_bytes, outcome_view};
 ghost use Rattle.duct_status.specs.EventView.{bytes_said};
 ghost use Rattle.duct_status.specs.Outcome.{awaited_by, captured, ended, finished, with_bytes};

@@ -1,5 +1,4 @@
-use Rattle.std.specs.Prelude.{bytes_eq, string_bytes}
-use Rattle.std.proofs.Common.{rules, tests, ◌∙◌}
+use Rattle.std.proofs.Common.{rules, tests, ◌∙◌, bytes_eq, string_bytes}
 use Rattle.std.proofs.lemmas.Iterator.{YieldsList-from_slice}
 use Rattle.std.proofs.lemmas.Iterator.Search.{any_from_yields_List}
 use Rattle.duct_guard.proofs.Prefixes.{any_seen}

@@ -1,6 +1,5 @@
-use Rattle.std.proofs.Common.{refl}
+use Rattle.std.proofs.Common.{refl, Result}
 use Rattle.std.specs.Arc.{arc_value}
-use Rattle.std.specs.declared.result.Result.{Result}
 use Rattle.duct_system.specs.EntryView.{Feed}
 use Rattle.duct_system.specs.declared.system.Fault.{Fault}
 use Rattle.duct_guard.proofs.Guarding.{one_closed, worker_answered}

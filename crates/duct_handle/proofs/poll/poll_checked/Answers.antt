@@ -1,6 +1,5 @@
 -- A poll of what has this shape and these numbers.
-use Rattle.std.specs.Prelude.{Ok, Err, Some, None}
-use Rattle.std.proofs.Common.{◌≡◌, ap, inl, subst, ◌∙◌, rules}
+use Rattle.std.proofs.Common.{◌≡◌, ap, inl, subst, ◌∙◌, rules, Ok, Err, Some, None}
 use Rattle.duct_system.specs.declared.error.Error.TheVariants as error
 use Rattle.duct_status.specs.ShapeView.{shape_view}
 use Rattle.duct_run.proofs.Seeing.{views_of}

@@ -1,6 +1,5 @@
 -- The pipe so far, with the remaining commands piped after it, is the pipe of all.
-use Rattle.std.proofs.Common.{◌≡◌, map, string_bytes}
-use Rattle.std.specs.Option.{option_map}
+use Rattle.std.proofs.Common.{◌≡◌, map, string_bytes, option_map}
 use Rattle.duct.specs.TreeView.{tree_view}
 use Rattle.duct_program.specs.Line.{further, pieces, piped, pipeline_of}
 use Rattle.duct_program.proofs.Pipes.{pieces_len}

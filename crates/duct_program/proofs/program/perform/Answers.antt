@@ -1,5 +1,4 @@
-use Rattle.std.proofs.Common.{ap, refl, sym, ◌∙◌}
-use Rattle.std.specs.Prelude.{Err}
+use Rattle.std.proofs.Common.{ap, refl, sym, ◌∙◌, Err}
 use Rattle.duct_program.proofs.Printing.{status_known, two_prints_usage, zero_prints_none}
 use Rattle.duct_program.proofs.program.perform.Goals as goal
 

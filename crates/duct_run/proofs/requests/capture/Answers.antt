@@ -1,7 +1,6 @@
 use Rattle.std.proofs.lemmas.Result.{err_from_is_err_and}
 use Rattle.duct_run.specs.ResourcesView.{pipe_view, resources_view}
-use Rattle.std.specs.Prelude.{Some}
-use Rattle.std.proofs.Common.{ap, refl, sym, ◌∙◌}
+use Rattle.std.proofs.Common.{ap, refl, sym, ◌∙◌, Some}
 use Rattle.duct_run.proofs.Captured.{capture_succeeds, capture_fails}
 use Rattle.duct_run.proofs.PerSide.{pipe_at, pipes_with}
 use Rattle.duct_run.proofs.Requesting.{goes_on, stops}

@@ -1,8 +1,6 @@
 use Rattle.std.proofs.lemmas.Result.{err_from_is_err_and}
-use Rattle.std.proofs.Common.{All, ap, sym, ◌∙◌, ◌≡◌, ◌++◌, ◌∷◌, []}
+use Rattle.std.proofs.Common.{All, ap, sym, ◌∙◌, ◌≡◌, ◌++◌, ◌∷◌, [], Some, None, map, option_to_list}
 use Rattle.std.proofs.lemmas.List.Elements.{All-cons, All-nil}
-use Rattle.std.specs.Option.{option_to_list}
-use Rattle.std.specs.Prelude.{Some, None, map}
 use Rattle.duct_system.specs.Job.{unpolled_job}
 use Rattle.duct_run.specs.ResourcesView.{pipe_view, both, resources_view}
 use Rattle.duct_status.specs.PerSide.{with_side}

@@ -37,11 +37,11 @@ returns-in_err-make_room-clause-err g c =
     let stood = stood_same num child feed drain c.loop-action.held c.make_room.new.held c.make_room.ensures.same g.H.Hook.allows context to before now (c.loop-action.invariant.stood context to same first) in
     memory_refused g.H.Hook.allows g.H.Hook.refuses num context pairs same to before rest act now kept stood is _ c.in_err-make_room.ensures.memory)
 
-pub perform-requires-clause-within : goal.perform-requires-clause-within
-perform-requires-clause-within g c = within_at _ c.args.actions.now c.loop-action.action-index c.action-item.result c.loop-action-test.true c.action-item.is c.requires.within
+pub perform_one-requires-clause-within : goal.perform_one-requires-clause-within
+perform_one-requires-clause-within g c = within_at _ c.args.actions.now c.loop-action.action-index c.action-item.result c.loop-action-test.true c.action-item.is c.requires.within
 
-pub perform-requires-clause-full : goal.perform-requires-clause-full
-perform-requires-clause-full g c =
+pub perform_one-requires-clause-full : goal.perform_one-requires-clause-full
+perform_one-requires-clause-full g c =
     let num = g.S.End.Numbered.number_of in
     let child = g.S.Child.Child.child_view in
     let feed = g.S.Feed.Job.job_view in
@@ -58,8 +58,8 @@ perform-requires-clause-full g c =
     let stood = stood_same num child feed drain c.loop-action.held c.make_room.new.held c.make_room.ensures.same g.H.Hook.allows some.0 some.1 before now (c.loop-action.invariant.stood some.0 some.1 some.2 some.3) in
     omega (arith, (can_here g.H.Hook.allows g.H.Hook.refuses num some.0 pairs some.2 some.1 before rest act now kept stood is).0, pops_resolved scopes (action_view c.action-item.result), length_stack num c.make_room.new.held.stack.items)
 
-pub perform-requires-clause-can : goal.perform-requires-clause-can
-perform-requires-clause-can g c =
+pub perform_one-requires-clause-can : goal.perform_one-requires-clause-can
+perform_one-requires-clause-can g c =
     let num = g.S.End.Numbered.number_of in
     let child = g.S.Child.Child.child_view in
     let feed = g.S.Feed.Job.job_view in
@@ -76,8 +76,8 @@ perform-requires-clause-can g c =
     let stood = stood_same num child feed drain c.loop-action.held c.make_room.new.held c.make_room.ensures.same g.H.Hook.allows some.0 some.1 before now (c.loop-action.invariant.stood some.0 some.1 some.2 some.3) in
     (can_here g.H.Hook.allows g.H.Hook.refuses num some.0 pairs some.2 some.1 before rest act now kept stood is).1
 
-pub perform-requires-clause-room : goal.perform-requires-clause-room
-perform-requires-clause-room g c =
+pub perform_one-requires-clause-room : goal.perform_one-requires-clause-room
+perform_one-requires-clause-room g c =
     let num = g.S.End.Numbered.number_of in
     let child = g.S.Child.Child.child_view in
     let feed = g.S.Feed.Job.job_view in
@@ -94,9 +94,9 @@ perform-requires-clause-room g c =
     let stood = stood_same num child feed drain c.loop-action.held c.make_room.new.held c.make_room.ensures.same g.H.Hook.allows some.0 some.1 before now (c.loop-action.invariant.stood some.0 some.1 some.2 some.3) in
     room_here g.H.Hook.allows g.H.Hook.refuses num some.0 pairs some.2 some.1 before rest act now kept stood is
 
-pub returns-in_err-perform-clause-err : goal.returns-in_err-perform-clause-err
-returns-in_err-perform-clause-err g c =
-    let p = err_from_is_err_and c.from_residual-in_err-perform.result c.from_residual-in_err-perform.ensures.1 in
+pub returns-in_err-perform_one-clause-err : goal.returns-in_err-perform_one-clause-err
+returns-in_err-perform_one-clause-err g c =
+    let p = err_from_is_err_and c.from_residual-in_err-perform_one.result c.from_residual-in_err-perform_one.ensures.1 in
     let num = g.S.End.Numbered.number_of in
     let child = g.S.Child.Child.child_view in
     let feed = g.S.Feed.Job.job_view in
@@ -111,14 +111,14 @@ returns-in_err-perform-clause-err g c =
     let kept = resources_view num child feed drain c.make_room.new.held in
     rw (p.1, p.2) (λ context to same first.
     let stood = stood_same num child feed drain c.loop-action.held c.make_room.new.held c.make_room.ensures.same g.H.Hook.allows context to before now (c.loop-action.invariant.stood context to same first) in
-    refused_now g.H.Hook.allows g.H.Hook.refuses num context pairs same to before rest act now kept stood is _ _ _ c.in_err-perform.ensures.performed.err)
+    refused_now g.H.Hook.allows g.H.Hook.refuses num context pairs same to before rest act now kept stood is _ _ _ c.in_err-perform_one.ensures.performed.err)
 
-pub returns-in_err-perform-clause-new : goal.returns-in_err-perform-clause-new
-returns-in_err-perform-clause-new g c = λ new. c.perform.ensures.performed.new
+pub returns-in_err-perform_one-clause-new : goal.returns-in_err-perform_one-clause-new
+returns-in_err-perform_one-clause-new g c = λ new. c.perform_one.ensures.performed.new
     (new_same g.S.End.Numbered.number_of g.S.Child.Child.child_view g.S.Feed.Job.job_view g.S.Drain.Job.job_view c.loop-action.held c.make_room.new.held c.make_room.ensures.same (c.loop-action.invariant.new new))
 
-pub returns-in_err-perform-clause-pool : goal.returns-in_err-perform-clause-pool
-returns-in_err-perform-clause-pool g c = leaves_on _ [] _ _ _ c.loop-action.invariant.pool c.perform.ensures.pool
+pub returns-in_err-perform_one-clause-pool : goal.returns-in_err-perform_one-clause-pool
+returns-in_err-perform_one-clause-pool g c = leaves_on _ [] _ _ _ c.loop-action.invariant.pool c.perform_one.ensures.pool
 
 pub loop-action-preserved : goal.loop-action-preserved
 loop-action-preserved g c =
@@ -138,11 +138,11 @@ loop-action-preserved g c =
     record {
       stood = λ context to same first.
           let stood = stood_same num child feed drain c.loop-action.held c.make_room.new.held c.make_room.ensures.same g.H.Hook.allows context to before now (c.loop-action.invariant.stood context to same first) in
-          goes_on_saying g.H.Hook.allows g.H.Hook.refuses num context pairs same to before rest act now kept stood is _ _ c.in_ok-perform.ensures.performed.ok;
-      new = λ new. c.perform.ensures.performed.new (new_same num child feed drain c.loop-action.held c.make_room.new.held same_held (c.loop-action.invariant.new new));
-      workers = workers_on c.args.held.now c.make_room.new.held c.perform.new.held
-          (workers_on c.args.held.now c.loop-action.held c.make_room.new.held c.loop-action.invariant.workers (workers_same c.loop-action.held c.make_room.new.held same_held)) c.perform.ensures.performed.workers;
-      pool = leaves_on _ [] _ _ _ c.loop-action.invariant.pool c.perform.ensures.pool;
+          goes_on_saying g.H.Hook.allows g.H.Hook.refuses num context pairs same to before rest act now kept stood is _ _ c.in_ok-perform_one.ensures.performed.ok;
+      new = λ new. c.perform_one.ensures.performed.new (new_same num child feed drain c.loop-action.held c.make_room.new.held same_held (c.loop-action.invariant.new new));
+      workers = workers_on c.args.held.now c.make_room.new.held c.perform_one.new.held
+          (workers_on c.args.held.now c.loop-action.held c.make_room.new.held c.loop-action.invariant.workers (workers_same c.loop-action.held c.make_room.new.held same_held)) c.perform_one.ensures.performed.workers;
+      pool = leaves_on _ [] _ _ _ c.loop-action.invariant.pool c.perform_one.ensures.pool;
     }
 
 pub returns-clause-ok : goal.returns-clause-ok

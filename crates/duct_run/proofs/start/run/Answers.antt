@@ -1,8 +1,6 @@
 -- From the environment to the capture workers, or to the reader.
-use Rattle.std.proofs.Common.{◌≡◌, ap, ◌∙◌, rules, sym}
+use Rattle.std.proofs.Common.{◌≡◌, ap, ◌∙◌, rules, sym, None, is_some, Option}
 use Rattle.std.proofs.lemmas.Result.{err_from_is_err_and}
-use Rattle.std.specs.Prelude.{None, is_some}
-use Rattle.std.specs.declared.option.Option.{Option}
 use Rattle.duct_system.specs.declared.system.Side.TheVariants as side
 use Rattle.duct_status.specs.declared.per_side.PerSide.{PerSide}
 use Rattle.duct_run.specs.Actions.{with_capture_finished}

@@ -1,7 +1,4 @@
-use Rattle.std.proofs.Common.{◌≤◌, ◌++◌, ap, ◌∙◌, arith, length, map}
-use Rattle.std.specs.Option.{option_to_list}
-use Rattle.std.specs.Prelude.{None, Some}
-use Rattle.std.specs.declared.option.Option.{Option}
+use Rattle.std.proofs.Common.{◌≤◌, ◌++◌, ap, ◌∙◌, arith, length, map, None, Some, option_to_list, Option}
 use Rattle.duct_system.specs.Child.{ChildView}
 use Rattle.duct_system.specs.declared.system.Side.TheVariants as side
 use Rattle.duct_run.proofs.Seeing.{views_of}

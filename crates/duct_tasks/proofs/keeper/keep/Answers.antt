@@ -1,5 +1,4 @@
-use Rattle.std.specs.Prelude.{Bool}
-use Rattle.std.proofs.Common.{arith, refl, subst, sym}
+use Rattle.std.proofs.Common.{arith, refl, subst, sym, Bool}
 use Rattle.duct_run.proofs.Seeing.{views_of}
 use Rattle.duct_tasks.specs.Turns.{IsWhy}
 use Rattle.duct_tasks.specs.declared.keeper.Why.{Why}

@@ -1,5 +1,4 @@
-use Rattle.std.specs.Prelude.{◌∷◌, map}
-use Rattle.std.proofs.Common.{◌≡◌, ap, inl, inr}
+use Rattle.std.proofs.Common.{◌≡◌, ap, inl, inr, ◌∷◌, map}
 use Rattle.duct_tasks.proofs.Ending.{if_none_with, if_some_with}
 use Rattle.duct_tasks.proofs.read.first_bytes_until.Goals as goal
 

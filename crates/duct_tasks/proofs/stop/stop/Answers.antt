@@ -1,5 +1,4 @@
-use Rattle.std.specs.Prelude.{IfSome, map}
-use Rattle.std.proofs.Common.{◌∙◌, refl, subst, sym}
+use Rattle.std.proofs.Common.{◌∙◌, refl, subst, sym, IfSome, map}
 use Rattle.duct_status.specs.ShapeView.{ShapeView}
 use Rattle.duct_run.proofs.Seeing.{views_of}
 use Rattle.duct_running.specs.Answered.{IsConcludedPoll}

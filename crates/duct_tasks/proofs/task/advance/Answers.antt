@@ -1,5 +1,4 @@
-use Rattle.std.specs.Prelude.{Some}
-use Rattle.std.proofs.Common.{◌≡◌, subst}
+use Rattle.std.proofs.Common.{◌≡◌, subst, Some}
 use Rattle.duct_start.specs.Running.{RunningView}
 use Rattle.duct_run.proofs.Seeing.{views_of}
 use Rattle.duct_running.specs.Answered.{ReturnsConclusion}

@@ -1,8 +1,5 @@
-use Rattle.std.specs.Prelude.{Ok, Err}
-use Rattle.std.specs.declared.alloc.Global.{Global}
-use Rattle.std.specs.declared.option.Option.{Option}
 use Rattle.std.specs.declared.sync.Arc.{Arc}
-use Rattle.std.proofs.Common.{ap, inl, inr, subst, ◌∙◌}
+use Rattle.std.proofs.Common.{ap, inl, inr, subst, ◌∙◌, Ok, Err, Option, Global}
 use Rattle.duct_system.specs.declared.error.Error.{Error}
 use Rattle.duct_system.specs.declared.system.Output.{Output}
 use Rattle.duct_run.proofs.Seeing.{views_of}

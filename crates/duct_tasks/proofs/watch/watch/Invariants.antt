@@ -1,7 +1,6 @@
 -- What is polled stays as it was but for its results; after the first turn the stop function has
 -- said no.
-use Rattle.std.specs.Prelude.{false}
-use Rattle.std.proofs.Common.{◌≡◌, ◌⊎◌}
+use Rattle.std.proofs.Common.{◌≡◌, ◌⊎◌, false}
 use Rattle.duct_run.proofs.Seeing.{views_of}
 use Rattle.duct_running.specs.Polled.{StaysSame}
 use Rattle.duct_tasks.specs.Until.{AreSignalled}

@@ -1,6 +1,5 @@
 -- A start of a whole tree that is waited for.
-use Rattle.std.specs.Prelude.{is_some}
-use Rattle.std.proofs.Common.{inl, inr}
+use Rattle.std.proofs.Common.{inl, inr, is_some}
 use Rattle.std.proofs.lemmas.Result.{err_from_is_err_and}
 use Rattle.duct_start.specs.Plan.{plan_of}
 use Rattle.duct_run.proofs.Seeing.{views_of}

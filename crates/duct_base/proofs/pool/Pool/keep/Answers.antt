@@ -1,5 +1,4 @@
-use Rattle.std.proofs.Common.{◌++◌, ◌∙◌, ap}
-use Rattle.std.specs.Result.{is_ok}
+use Rattle.std.proofs.Common.{◌++◌, ◌∙◌, ap, is_ok}
 use Rattle.duct_base.specs.Pool.{in_nodes}
 use Rattle.duct_base.proofs.Sieving.{in_nodes_after}
 use Rattle.duct_base.proofs.pool.Pool.keep.Goals as goal

@@ -1,5 +1,4 @@
-use Rattle.std.proofs.Common.{refl, arith}
-use Rattle.std.specs.declared.result.Result.{Result}
+use Rattle.std.proofs.Common.{refl, arith, Result}
 use Rattle.duct_system.specs.EntryView.{Drain}
 use Rattle.duct_system.specs.declared.system.Fault.{Fault}
 use Rattle.duct_guard.proofs.Below.{one_asked}

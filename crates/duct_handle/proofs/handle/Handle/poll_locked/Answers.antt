@@ -1,7 +1,6 @@
 -- What a token that knows nothing yet finds under the lock.
-use Rattle.std.proofs.Common.{Ok, Err, None, ap, subst, sym, ◌∙◌}
+use Rattle.std.proofs.Common.{Ok, Err, None, ap, subst, sym, ◌∙◌, option_map}
 use Rattle.std.specs.Arc.{arc_value}
-use Rattle.std.specs.Option.{option_map}
 use Rattle.once_cell.specs.Once.{Agrees}
 use Rattle.duct_status.specs.ShapeView.{shape_view}
 use Rattle.duct_run.proofs.Seeing.{views_of}

@@ -1,7 +1,6 @@
 -- A token that knows what is published.
-use Rattle.std.proofs.Common.{ap, subst, ◌∙◌}
+use Rattle.std.proofs.Common.{ap, subst, ◌∙◌, option_map}
 use Rattle.std.specs.Arc.{arc_value}
-use Rattle.std.specs.Option.{option_map}
 use Rattle.duct_run.proofs.Seeing.{views_of}
 use Rattle.duct_running.specs.NumbersView.{numbers_view}
 use Rattle.duct_handle.specs.HandleView.{SeenView}

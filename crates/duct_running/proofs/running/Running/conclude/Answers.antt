@@ -1,5 +1,4 @@
-use Rattle.std.specs.Prelude.{ℕ, List}
-use Rattle.std.proofs.Common.{sym, subst}
+use Rattle.std.proofs.Common.{sym, subst, ℕ, List}
 use Rattle.duct_status.specs.Endings.{Endings, Way}
 use Rattle.duct_status.specs.Outcome.{OutcomeView, waits, faults, finished, AnswersFor, AnswersOutcome}
 use Rattle.duct_status.specs.ReplyView.{ReplyView, noted, unknown, pending, faulted, answered, failed, no_memory}

@@ -1,9 +1,6 @@
-use Rattle.std.proofs.Common.{◌≡◌, List, ap, arith, map, subst, sym, ◌∙◌}
+use Rattle.std.proofs.Common.{◌≡◌, List, ap, arith, map, subst, sym, ◌∙◌, Bool, MatchBool, option_map, Option}
 use Rattle.duct_start.specs.Running.{RunningView}
 use Rattle.std.proofs.lemmas.List.{length-map}
-use Rattle.std.specs.Prelude.{Bool, MatchBool}
-use Rattle.std.specs.Option.{option_map}
-use Rattle.std.specs.declared.option.Option.{Option}
 use Rattle.duct_system.specs.Job.{JobView}
 use Rattle.duct_system.specs.declared.system.Side.TheVariants as side
 use Rattle.duct_status.specs.Outcome.{awaited}

@@ -1,7 +1,6 @@
 use Rattle.duct_status.specs.ShapeView.{command_count, input_count, shape_view}
 use Rattle.std.proofs.lemmas.List.{length-set}
-use Rattle.std.proofs.Common.{ap, sym, ◌∙◌, map}
-use Rattle.std.specs.Option.{option_map}
+use Rattle.std.proofs.Common.{ap, sym, ◌∙◌, map, option_map}
 use Rattle.duct_start.specs.Running.{RunningView}
 use Rattle.duct_system.specs.Child.{ChildView}
 use Rattle.duct_running.proofs.Polls.{not_asked_in, asked_in, named_in, words_in_step}

@@ -1,6 +1,4 @@
-use Rattle.std.specs.Prelude.{ℕ, ◌≡◌, ◌<◌, Ok, Err}
-use Rattle.std.specs.declared.result.Result.{Result}
-use Rattle.std.proofs.Common.{arith, inl, inr}
+use Rattle.std.proofs.Common.{arith, inl, inr, ℕ, ◌≡◌, ◌<◌, Ok, Err, Result}
 use Rattle.duct_system.specs.declared.error.Error.{Error}
 use Rattle.duct_status.specs.ShapeView.{shape_view}
 use Rattle.duct_system.specs.SystemViews.{SystemViews}

@@ -1,6 +1,5 @@
 -- The entries with other names stay.
-use Rattle.std.proofs.Common.{refl, rules}
-use Rattle.std.specs.Prelude.{not}
+use Rattle.std.proofs.Common.{refl, rules, not}
 use Rattle.std.proofs.lemmas.Map.Made.{filter_same_pairs}
 use Rattle.duct_system.specs.Name.{is_same_name}
 use Rattle.duct_system.proofs.Entries.{filter_vars}

@@ -1,5 +1,4 @@
-use Rattle.std.proofs.Common.{◌≡◌, arith, ap, sym, subst, length}
-use Rattle.std.specs.Prelude.{ℕ, List, get_or, sum_by}
+use Rattle.std.proofs.Common.{◌≡◌, arith, ap, sym, subst, length, ℕ, List, get_or, sum_by}
 use Rattle.std.proofs.lemmas.List.Sums.{sum_by_push}
 use Rattle.duct.specs.declared.expression.Expression.{Expression}
 use Rattle.duct_run.proofs.Seeing.{views_of}

@@ -1,7 +1,7 @@
 -- Each kind of action by its request; only a spawn sweeps the pool.
 use Rattle.duct_run.proofs.Leaving.{leaves_same, leaves_swept}
 use Rattle.duct_run.proofs.Saying.{performed}
-use Rattle.duct_run.proofs.run.perform.Goals as goal
+use Rattle.duct_run.proofs.run.perform_one.Goals as goal
 
 pub returns-in-OpenRead : goal.returns-in-OpenRead
 returns-in-OpenRead g c = record { performed = rw c.in-OpenRead.is (performed c.open_read.ensures); pool = leaves_same _ _ }
