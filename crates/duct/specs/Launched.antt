@@ -1,5 +1,5 @@
 -- What a start promises: of the journal, of what it makes, and of the pool.
-use Rattle.std.specs.Prelude.{ℕ, Bool, List, ◌⊎◌, false, is_some, map, [], Option, String}
+use Rattle.std.specs.Prelude.{ℕ, Bool, List, ◌⊎◌, false, is_some, map, [], Err, Ok, Option, Result, String}
 use Rattle.std.specs.declared.alloc.Global.{Global}
 use Rattle.duct_base.specs.Pool.{PoolView}
 use Rattle.duct_system.specs.EntryView.{EntryView}
@@ -140,3 +140,31 @@ module _ {S E C F D : Type 0} (views : SystemViews S E C F D (Unit {0}) Bytes) w
       → RunningView C F D → MadeBy E H
   ReadFails may remaining error waited kind tree added =
       ReadStopsBy views may remaining added error waited
+
+module _ {S E C F D : Type 0} (views : SystemViews S E C F D (Unit {0}) Bytes) {H : Type 0}
+    (allows : Allows H) (refuses : Refuses H) (root : Expression E H) where
+  -- what `Expression::start` and `Expression::reader` promise
+  abbrev pub IsStart : StartKind → S × PoolView C → Result HandleView Error → S × PoolView C
+      → Type 0
+  IsStart kind before (Ok handle) after = Launched views allows kind root before.0 after.0
+      before.1 after.1 (Handles views handle)
+  IsStart kind before (Err e) after = LaunchRefused views allows refuses kind root before.0 after.0
+      before.1 after.1 e
+
+  -- what a call does that starts the expression and waits for it
+  abbrev pub IsCall : {T : Type 0} → StartKind → (T → MadeBy E H)
+      → (Error → RunningView C F D → MadeBy E H) → S × PoolView C → Result T Error → S × PoolView C
+      → Type 0
+  IsCall kind returns fails before (Ok value) after =
+      Launched views allows kind root before.0 after.0 before.1 after.1 (returns value)
+  IsCall kind returns fails before (Err error) after =
+      RunFailed views allows refuses kind root before.0 after.0 before.1 after.1 fails error
+
+  -- what `Expression::run` promises
+  abbrev pub IsRun : S × PoolView C → Result Output Error → S × PoolView C → Type 0
+  IsRun = IsCall draining (Returns views) (Fails views)
+
+  -- what `Expression::read` promises
+  abbrev pub IsRead : {R : Type 0} → (ℕ → R → Type 0) → (R → Option (List ℕ)) → S × PoolView C
+      → Result (String Global) Error → S × PoolView C → Type 0
+  IsRead may remaining = IsCall reading (Reads views may remaining) (ReadFails views may remaining)

@@ -72,8 +72,8 @@ impl<E, H> Expression<E, H> {
         &self.root
     }
 
-    // The allocator that the expression takes its memory from.
-    pub(crate) fn allocator(&self) -> Global {
+    /// Returns the allocator that the expression takes its memory from.
+    pub fn allocator(&self) -> Global {
         self.alloc
     }
 }

@@ -11,7 +11,7 @@ use Rattle.duct_running.specs.Stored.{Bytes}
 use Rattle.duct.specs.Launched.{Launched, MadeBy, RunFailed, StartKind}
 use Rattle.duct.specs.declared.expression.Expression.{Expression}
 use Rattle.duct_guard.specs.Held.{IsBegun, nothing_held}
-use Rattle.duct_guard.specs.Under.{FixedGuard, IsCall, IsLeft}
+use Rattle.duct_guard.specs.Under.{FixedGuard, IsLeft}
 use Rattle.duct_guard.specs.declared.counts.Held.{Held}
 use Rattle.duct_guard.specs.declared.fixed.FixedRules as rules_trait
 use Rattle.duct_guard.specs.declared.policy.Policy as policy_trait

@@ -1,18 +1,17 @@
 //! A read and a run under a policy, also where its rules are known only while the program runs.
 ghost use Rattle.std.specs.Prelude.{◌≡◌, ◌≤◌, []};
+ghost use Rattle.duct.specs.Launched.{IsRead, IsRun};
 ghost use Rattle.duct_guard.specs.Rules.{AreAllowed};
 ghost use Rattle.duct_guard.specs.Held.{Fits, IsBegun};
-ghost use Rattle.duct_guard.specs.Under.{Guards, IsLeft, IsRead, IsRun, guard_views};
+ghost use Rattle.duct_guard.specs.Under.{Guards, IsLeft, guard_views};
 
 use crate::counts::Counts;
 use crate::crew::GuardedChild;
 use crate::fixed::{Fixed, FixedRules};
 use crate::guard::Guarded;
 use crate::policy::Policy;
-use duct::tree::Node;
 use duct::{Error, Expression, Hook, Output, Pool, System};
 use duct_system::views::Viewed;
-use std::alloc::Global;
 use std::marker::Brand;
 use std::sync::Wait;
 
@@ -94,7 +93,7 @@ fn read_fixed<S: System, P: Policy + Drop, H: Hook, K: FixedRules>(
         S.Reader.remaining) (system, pool.old) (result, pool.new) }
 {
     let policy: Fixed<P, K> = Fixed::new(policy);
-    let mut guarded = Guarded::new(allocator(expression.root()), system, policy);
+    let mut guarded = Guarded::new(expression.allocator(), system, policy);
     let text = expression.read(rt, &mut guarded, pool);
     ended(guarded, text)
 }
@@ -117,17 +116,9 @@ fn run_fixed<S: System, P: Policy + Drop, H: Hook, K: FixedRules>(
         (system, pool.old) (result, pool.new) }
 {
     let policy: Fixed<P, K> = Fixed::new(policy);
-    let mut guarded = Guarded::new(allocator(expression.root()), system, policy);
+    let mut guarded = Guarded::new(expression.allocator(), system, policy);
     let output = expression.run(rt, &mut guarded, pool);
     ended(guarded, output)
-}
-
-// Returns the allocator that an expression with this root has its memory from.
-fn allocator<E, H>(root: &Node<E, H>) -> Global {
-    match root {
-        Node::Cmd(words) => *words.allocator(),
-        Node::Pipe(inner, _) | Node::Io(_, inner) => allocator(inner),
-    }
 }
 
 // Takes a guard apart.

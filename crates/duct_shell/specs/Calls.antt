@@ -17,10 +17,9 @@ use Rattle.duct_start.specs.Chain.{Allows, Refuses}
 use Rattle.duct_start.specs.TreeView.{TreeView, around, command, pipe, stderr_capture, stdout_capture, unchecked}
 use Rattle.duct_running.specs.Stored.{Bytes}
 use Rattle.duct_handle.specs.HandleView.{HandleView}
-use Rattle.duct.specs.Launched.{Launched, ReadFails, Reads, RunFailed, reading}
+use Rattle.duct.specs.Launched.{IsRun, IsStart, reading}
 use Rattle.duct.specs.declared.expression.Expression.{Expression}
 use Rattle.duct.specs.TreeView.{tree_view}
-use Rattle.duct_tasks.specs.Turns.{IsStart, IsRun}
 use Rattle.duct_shell.specs.FailedRequest.{Names}
 use Rattle.duct_shell.specs.declared.failure.Failure.{Failure}
 use Rattle.duct_shell.specs.declared.capture.Captured.{Captured}
@@ -75,14 +74,6 @@ module _ {S E C F D : Type 0} (views : SystemViews S E C F D (Unit {0}) Bytes) {
   abbrev pub IsReader : S × PoolView C → Result HandleView Error → S × PoolView C → Type 0
   IsReader before result after = IsStart views allows refuses root reading before result after
       ⊎ ((result ≡ Err Memory) × (after.0 ≡ before.0) × (after.1 ≡ before.1))
-
-  -- what `Expression::read` promises
-  abbrev pub IsRead : {R : Type 0} → (ℕ → R → Type 0) → (R → Option (List ℕ)) → S × PoolView C
-      → Result (String Global) Error → S × PoolView C → Type 0
-  IsRead may remaining before (Ok text) after = Launched views allows reading root before.0 after.0
-      before.1 after.1 (Reads views may remaining text)
-  IsRead may remaining before (Err e) after = RunFailed views allows refuses reading root before.0
-      after.0 before.1 after.1 (ReadFails views may remaining) e
 
   -- what `Expression::run` promises, of the expression with both streams captured
   abbrev pub IsRunInside : S × PoolView C → Result Output Error → S × PoolView C → Type 0

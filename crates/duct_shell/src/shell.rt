@@ -12,11 +12,10 @@ ghost use Rattle.duct_run.specs.Requested.{PoolGets};
 ghost use Rattle.duct_running.specs.Answered.{IsAnswer, IsConcluded};
 ghost use Rattle.duct_handle.specs.Finished.{AreGiven};
 ghost use Rattle.duct_handle.specs.Obeyed.{IsObeyed};
-ghost use Rattle.duct.specs.Launched.{draining};
+ghost use Rattle.duct.specs.Launched.{IsRead, IsRun, IsStart, draining};
 ghost use Rattle.duct.specs.TreeView.{tree_view};
-ghost use Rattle.duct_tasks.specs.Turns.{IsRun, IsStart};
 ghost use Rattle.duct_tasks.specs.Until.{IsReadUntil, IsRunUntil};
-ghost use Rattle.duct_shell.specs.Calls.{Begins, Calls, FromNow, IsRead, IsReader};
+ghost use Rattle.duct_shell.specs.Calls.{Begins, Calls, FromNow, IsReader};
 ghost use Rattle.duct_shell.specs.FailedRequest.{Names};
 
 use crate::failure::Failure;

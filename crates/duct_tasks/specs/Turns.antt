@@ -22,8 +22,7 @@ use Rattle.duct_running.specs.NumbersView.{NumbersView, numbers_of}
 use Rattle.duct_running.specs.Stored.{Bytes}
 use Rattle.duct_handle.specs.Started.{AreNumbers}
 use Rattle.duct_handle.specs.Waited.{at_end}
-use Rattle.duct_handle.specs.HandleView.{HandleView}
-use Rattle.duct.specs.Launched.{added_between, draining, drains_error, drains_output, Fails, Handles, LaunchRefused, Launched, Returns, RunFailed, StartKind}
+use Rattle.duct.specs.Launched.{added_between, draining, drains_error, drains_output}
 use Rattle.duct.specs.TreeView.{tree_view}
 use Rattle.duct.specs.declared.expression.Expression.{Expression}
 use Rattle.duct_tasks.specs.declared.task.Task.{Task}
@@ -222,21 +221,6 @@ module _ {S E C F D : Type 0} (views : SystemViews S E C F D (Unit {0}) Bytes) {
     pub pool : after.1.given ≡ counted before.1.given given
     pub asked : 0 < kept.starts → says false
     pub why : IsWhy most says kept.why kept.starts kept.last
-
-  -- what `Expression::start` and `Expression::reader` promise
-  abbrev pub IsStart : StartKind → S × PoolView C → Result HandleView Error → S × PoolView C
-      → Type 0
-  IsStart kind before (Ok handle) after = Launched views allows kind root before.0 after.0
-      before.1 after.1 (Handles views handle)
-  IsStart kind before (Err e) after = LaunchRefused views allows refuses kind root before.0 after.0
-      before.1 after.1 e
-
-  -- what `Expression::run` promises
-  abbrev pub IsRun : S × PoolView C → Result Output Error → S × PoolView C → Type 0
-  IsRun before (Ok output) after = Launched views allows draining root before.0 after.0
-      before.1 after.1 (Returns views output)
-  IsRun before (Err e) after = RunFailed views allows refuses draining root before.0 after.0
-      before.1 after.1 (Fails views) e
 
 -- a call of f through a `&`, at a `&mut` to each of two values, may return r and leave two others
 pub record FnReturnsAtPairMut {F A B R : Type 0}

@@ -1,8 +1,8 @@
 //! Attempts at starts and runs of an expression.
 ghost use Rattle.std.specs.Prelude.{◌<◌};
 ghost use Rattle.std.specs.Fn.{FnReturnsAt};
-ghost use Rattle.duct.specs.Launched.{draining};
-ghost use Rattle.duct_tasks.specs.Turns.{Attempts, IsRun, IsStart};
+ghost use Rattle.duct.specs.Launched.{IsRun, IsStart, draining};
+ghost use Rattle.duct_tasks.specs.Turns.{Attempts};
 
 use crate::repeated::attempts;
 use duct::{Error, Expression, Handle, Hook, Output, Pool, System};

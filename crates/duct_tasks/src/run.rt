@@ -66,14 +66,16 @@ pub(crate) fn launch_until<E: Drop, H: Hook, S: System<End = E>, C: Clock>(
 ) -> Result<Until<Output, (Late, Running<S>)>, Error>
     ensures done { IfOk result (λ until. IfDone until (λ output. Launched ⟦<S as Viewed>⟧.views
         H.allows draining expression.now sys.old sys.new pool.old pool.new
-        (ReturnsInTime ⟦<S as Viewed>⟧.views (C.may_show deadline.now.clock.now) (as_nanos deadline.now.moment) output))) }
+        (ReturnsInTime ⟦<S as Viewed>⟧.views (C.may_show deadline.now.clock.now)
+        (as_nanos deadline.now.moment) output))) }
     ensures stopped { IfOk result (λ until. IfLate until (λ stopped. Launched
         ⟦<S as Viewed>⟧.views H.allows draining expression.now sys.old sys.new pool.old pool.new
         (Stops ⟦<S as Viewed>⟧.views stopped.0 stopped.1))) }
-    ensures late { IfOk result (λ until. IfLate until
-        (λ stopped. HasReached (C.may_show deadline.now.clock.now) (as_nanos deadline.now.moment))) }
+    ensures late { IfOk result (λ until. IfLate until (λ stopped.
+        HasReached (C.may_show deadline.now.clock.now) (as_nanos deadline.now.moment))) }
     ensures grace { IfOk result (λ until. IfLate until (λ stopped. UnlessEnded stopped.0.ended
-        (HasReached (C.may_show deadline.now.clock.now) (min (as_nanos deadline.now.moment + as_nanos deadline.now.grace) max_nanos)))) }
+        (HasReached (C.may_show deadline.now.clock.now)
+        (min (as_nanos deadline.now.moment + as_nanos deadline.now.grace) max_nanos)))) }
     ensures failed { IfErr result (RunFailed ⟦<S as Viewed>⟧.views H.allows H.refuses draining
         expression.now sys.old sys.new pool.old pool.new (Fails ⟦<S as Viewed>⟧.views)) }
 {
@@ -102,9 +104,9 @@ pub(crate) fn launch_until<E: Drop, H: Hook, S: System<End = E>, C: Clock>(
 /// Where the clock shows the moment or a later one while the expression has not ended, it is
 /// stopped: each command that is not known to have ended is sent signal 15, and each that is still
 /// not known to have ended when the clock shows the end of the grace is killed, each once and from
-/// right to left. Nothing waits for what was killed: the children are given to the pool, where a sweep
-/// reaps them. That it was stopped is no error but `Until::Late`, with how it ended and what the
-/// kill returned. A command is sent neither once it is known to have ended; and a command whose
+/// right to left. Nothing waits for what was killed: the children are given to the pool, where a
+/// sweep reaps them. That it was stopped is no error but `Until::Late`, with how it ended and what
+/// the kill returned. A command is sent neither once it is known to have ended; and a command whose
 /// order finds no memory to be noted gets the other one alone, or none. An allocation failure of a
 /// poll doesn't end the grace: it is polled again.
 ///

@@ -1,6 +1,5 @@
 use Rattle.duct_run.proofs.Seeing.{views_of}
-use Rattle.duct.specs.Launched.{draining}
-use Rattle.duct_tasks.specs.Turns.{IsStart}
+use Rattle.duct.specs.Launched.{IsStart, draining}
 use Rattle.duct_tasks.proofs.EachAttempt.{by_result}
 use Rattle.duct_tasks.proofs.expression.start_once.Goals as goal
 
