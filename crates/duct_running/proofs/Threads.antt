@@ -42,7 +42,7 @@ module _ (S E C F D R : RattleType)
           Vec-send F feed,
           (
             sides.the_field_send (Option.the_row D) (option.the_send D drain),
-            (search sendable, (Vec-send D drain, tt)),
+            (Vec-send D drain, tt),
           ),
         ),
       ),

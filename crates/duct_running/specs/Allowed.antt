@@ -9,7 +9,8 @@ use Rattle.duct_start.specs.Running.{RunningView}
 use Rattle.duct_system.specs.SystemViews.{SystemViews}
 use Rattle.duct_running.specs.Polled.{WhileRuns}
 use Rattle.duct_running.specs.NumbersView.{NumbersView}
-use Rattle.duct_running.specs.Stored.{Bytes}
+use Rattle.duct_running.specs.Stored.{Bytes, stored_in}
+use Rattle.duct_status.specs.declared.status.Word.TheVariants as word
 
 -- a child of this number may return the result of the last poll, and the ending
 pub record ChildAnswersAllowed (may : ℕ → Answer → Type 0) (child : ChildView) : Type 0 where
@@ -40,6 +41,11 @@ module _ {S E C F D : Type 0} (views : SystemViews S E C F D (Unit {0}) Bytes) w
       AnswersAllowed views.may_answer views.feed_says views.drain_says
       (map views.child running.children) (map views.feed running.feeds)
       (option_map views.drain running.output) (option_map views.drain running.error)
+
+  -- a child stores that it runs, as it does before its first poll
+  abbrev pub OneIsRunning : RunningView C F D → Type 0
+  OneIsRunning running =
+      Contains (stored_in views.child views.feed views.drain running).commands word.Running
 
   -- a child, an input worker or a capture worker of these numbers may return that it runs
   abbrev pub OneRuns : NumbersView → Type 0

@@ -1,5 +1,5 @@
 //! A running expression: its children, its workers, and the results so far.
-ghost use Rattle.std.specs.Prelude.{◌≡◌, ◌<◌, ◌≤◌, [], ◌++◌, length, map, is_some, vec_capacity, Ok, None};
+ghost use Rattle.std.specs.Prelude.{◌≡◌, ◌↔◌, ◌<◌, ◌≤◌, [], ◌++◌, length, map, is_some, vec_capacity, IsTrue, Ok, None};
 ghost use Rattle.std.specs.Arc.{arc_value};
 ghost use Rattle.std.specs.Option.{option_to_list};
 ghost use Rattle.duct_system.specs.declared.system.Side.TheVariants.{Out, Err};
@@ -12,7 +12,7 @@ ghost use Rattle.duct_running.specs.Stored.{answer_word};
 ghost use Rattle.duct_running.specs.RunningInvariant.{FitsShape};
 ghost use Rattle.duct_run.specs.Requested.{HoldsUnasked};
 ghost use Rattle.duct_running.specs.NumbersView.{numbers_of};
-ghost use Rattle.duct_running.specs.Allowed.{OneRuns, StoresAllowed};
+ghost use Rattle.duct_running.specs.Allowed.{OneIsRunning, OneRuns, StoresAllowed};
 
 mod orders;
 
@@ -36,8 +36,6 @@ pub struct Running<S: System> {
     pub(crate) children: Vec<Place<S::Child>>,
     pub(crate) feeds: Vec<S::Feed>,
     pub(crate) drains: PerSide<Option<S::Drain>>,
-    // Whether a command reported `Running` at the last poll; true before the first poll.
-    busy: bool,
     // Empty, with room for the capture workers, so that `into_parts` allocates nothing.
     room: Vec<S::Drain>,
 }
@@ -150,7 +148,6 @@ pub fn running_of<S: System>(
         children,
         feeds,
         drains,
-        busy: true,
         room,
     }
 }
@@ -166,9 +163,10 @@ impl<S: System> Running<S> {
     }
 
     /// Returns whether a command reported `Running` at the last poll; true before the first poll.
-    /// No contract states it; the tests of waits check it.
-    pub fn is_busy(&self) -> bool {
-        self.busy
+    pub fn is_busy(&self) -> bool
+        ensures { IsTrue result ↔ OneIsRunning ⟦<S as Viewed>⟧.views self.now }
+    {
+        self.core.is_busy()
     }
 
     /// Does nothing. Its contract says that each result which a child or a worker stores is one
@@ -196,7 +194,6 @@ impl<S: System> Running<S> {
                 out: output,
                 err: error,
             },
-            busy: _,
             room: mut drains,
         } = self;
         drop((core, ids));
@@ -222,15 +219,7 @@ impl<S: System> Running<S> {
             return;
         }
         let heard = word(self.children[at].poll());
-        self.busy |= heard == Word::Running;
         let _ = self.core.step(Event::Command(at, heard));
-    }
-
-    // Forgets that a command reported `Running`.
-    fn begin_poll(&mut self)
-        ensures { self.new ≡ self.old }
-    {
-        self.busy = false;
     }
 
     // Polls each child that has not ended, once and from left to right.
@@ -311,7 +300,6 @@ impl<S: System> Running<S> {
         ensures pending { result ≡ Ok None
             → OneRuns ⟦<S as Viewed>⟧.views (numbers_of ⟦<S as Viewed>⟧.views self.new) }
     {
-        self.begin_poll();
         self.poll_children();
         self.poll_feeds();
         self.poll_drain(Side::Out);

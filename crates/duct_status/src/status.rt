@@ -116,7 +116,8 @@ pub struct Core {
 }
 
 impl Core {
-    ghost use Rattle.std.specs.Prelude.{◌≡◌, IfNone, IfSome, IsSomeAnd, None};
+    ghost use Rattle.std.specs.Prelude.{◌≡◌, ◌↔◌, Contains, IfNone, IfSome, IsSomeAnd, IsTrue, None};
+    ghost use Rattle.duct_status.specs.declared.status.Word.TheVariants.{Running};
     ghost use Rattle.duct_status.specs.Outcome.{Concludes, Responds, awaited, finished, first_fault, in_tree_order, outcome, some_runs};
     ghost use Rattle.duct_status.specs.Fits.{Fits};
     ghost use Rattle.duct_status.specs.EventView.{event_view, conclude};
@@ -328,6 +329,13 @@ impl Core {
             Some(Word::Running | Word::Fault(_)) => true,
             Some(Word::Ended(_)) | None => false,
         }
+    }
+
+    /// Returns whether the latest report of a command is that it runs, as it is before the first one.
+    pub fn is_busy(&self) -> bool
+        ensures { IsTrue result ↔ Contains (latest_in self.now).commands Running }
+    {
+        self.commands.contains(&Word::Running)
     }
 
     /// Returns whether there is an input worker with this number that has not finished.

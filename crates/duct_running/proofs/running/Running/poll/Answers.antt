@@ -25,15 +25,15 @@ returns-clause-polls g c =
     let shape_first : shape_view now.shape ≡ shape_view one.shape = shape ∙ c.poll_drain.ensures.shape in
     let children_first : now.children ≡ one.children = children ∙ c.poll_drain.ensures.children in
     let feeds_first : now.feeds ≡ one.feeds = feeds ∙ c.poll_drain.ensures.feeds in
-    let output_before : one.output ≡ c.args.self.now.output = c.poll_feeds.ensures.output ∙ c.poll_children.ensures.output ∙ ap (λ (r : RunningView _ _ _). r.output) c.begin_poll.ensures in
-    let error_before : one.error ≡ c.args.self.now.error = c.poll_feeds.ensures.error ∙ c.poll_children.ensures.error ∙ ap (λ (r : RunningView _ _ _). r.error) c.begin_poll.ensures in
+    let output_before : one.output ≡ c.args.self.now.output = c.poll_feeds.ensures.output ∙ c.poll_children.ensures.output in
+    let error_before : one.error ≡ c.args.self.now.error = c.poll_feeds.ensures.error ∙ c.poll_children.ensures.error in
     let error_still : two.error ≡ c.args.self.now.error = c.poll_drain.ensures.asked.1 ∙ error_before in
     let words = λ (cs : List _) (fs : List _) (o e : Option _). stored_latest (map g.S.Child.Child.child_view cs) (map g.S.Feed.Job.job_view fs) (option_map drain o) (option_map drain e) in
     let Polled = λ (test : Bool) (before after : Option _). MatchBool test (IsThereAndPolled g.S.Drain.Job.may_say g.S.Drain.Job.same g.S.Drain.Job.refusable (option_map drain before) (option_map drain after)) (option_map drain after ≡ option_map drain before) in
     record {
-      shape = shape_first ∙ c.poll_feeds.ensures.shape ∙ c.poll_children.ensures.shape ∙ ap (λ (r : RunningView _ _ _). shape_view r.shape) c.begin_poll.ensures;
-      children = rw (children_first, c.poll_feeds.ensures.children, ← ap (λ (r : RunningView _ _ _). r.children) c.begin_poll.ensures) c.poll_children.ensures.asked;
-      feeds = rw (feeds_first, ← (c.poll_children.ensures.feeds ∙ ap (λ (r : RunningView _ _ _). r.feeds) c.begin_poll.ensures)) c.poll_feeds.ensures.asked;
+      shape = shape_first ∙ c.poll_feeds.ensures.shape ∙ c.poll_children.ensures.shape;
+      children = rw (children_first, c.poll_feeds.ensures.children) c.poll_children.ensures.asked;
+      feeds = rw (feeds_first, ← c.poll_children.ensures.feeds) c.poll_feeds.ensures.asked;
       output = subst (λ (X : Type 0). X)
           (λ i. Polled (is_awaited side.Out (awaited (sym shape_first i) (words (sym children_first i) (sym feeds_first i) (output_before i) (error_before i)))) (output_before i) (sym output i))
           c.poll_drain.ensures.asked.0;
@@ -61,9 +61,9 @@ returns-clause-pending g c = λ none.
     let third = sym (children ∙ c.poll_drain.ensures.children) in
     let whole = sym (shapes ∙ c.poll_drain.ensures.shape) in
     let Polled = λ (test : Bool) (before after : Option (JobView Bytes)). MatchBool test (IsThereAndPolled g.S.Drain.Job.may_say g.S.Drain.Job.same g.S.Drain.Job.refusable before after) (after ≡ before) in
-    one_runs (views_of g.S.System g.S.End.Numbered g.S.Child.Child g.S.Feed.Job g.S.Drain.Job) (shape_view now.shape) (map child c.begin_poll.new.self.children) (map child now.children) (map feed c.poll_children.new.self.feeds) (map feed now.feeds)
+    one_runs (views_of g.S.System g.S.End.Numbered g.S.Child.Child g.S.Feed.Job g.S.Drain.Job) (shape_view now.shape) (map child c.args.self.now.children) (map child now.children) (map feed c.poll_children.new.self.feeds) (map feed now.feeds)
     (option_map drain one.output) (option_map drain now.output) (option_map drain one.error) (option_map drain now.error)
-    (subst (λ cs. AllAsked g.S.Child.Child.may_answer (map child c.begin_poll.new.self.children) (map child cs)) first c.poll_children.ensures.asked)
+    (subst (λ cs. AllAsked g.S.Child.Child.may_answer (map child c.args.self.now.children) (map child cs)) first c.poll_children.ensures.asked)
     (subst (λ fs. AllPolled g.S.Feed.Job.may_say g.S.Feed.Job.same g.S.Feed.Job.refusable (map feed c.poll_children.new.self.feeds) (map feed fs)) second c.poll_feeds.ensures.asked)
     (subst (λ (X : Type 0). X) (λ i. Polled (is_awaited side.Out (awaited (whole i) (stored_latest (map child (third i)) (map feed (second i)) (option_map drain one.output) (option_map drain one.error))))
     (option_map drain one.output) (option_map drain (sym output i))) c.poll_drain.ensures.asked.0)
