@@ -66,3 +66,10 @@ pub record IsGiven {C : Type 0} (may : ℕ → Answer → Type 0) (view : C → 
   pub stays : (more : List C) × (after.children ≡ before.children ++ more)
   pub takes : length before.children + length children < 2 ^ 63
       → PollsAll may view children before.children (length children) before after
+
+-- as many children as this were lost before they could be given
+abbrev pub Loses : {C : Type 0} → ℕ → PoolView C → PoolView C → Type 0
+Loses count before after = after ≡ record before {
+  given = counted before.given count;
+  lost = counted before.lost count;
+}

@@ -2,7 +2,7 @@
 //! polled and reaped.
 ghost use Rattle.std.specs.Prelude.{◌≡◌, ◌+◌, ◌<◌, ◌^◌, ◌∷◌, ◌++◌, List, [], drop, length, take, Some, None};
 ghost use Rattle.duct_system.specs.Child.{one_more};
-ghost use Rattle.duct_base.specs.Pool.{AddsUp, IsGiven, PollsAll};
+ghost use Rattle.duct_base.specs.Pool.{AddsUp, IsGiven, Loses, PollsAll};
 
 use duct_system::system::{Child, ExitStatus, Fault, Numbered};
 use std::alloc::{AllocError, Global};
@@ -266,6 +266,17 @@ pub fn pool_take<C: Child>(pool: &mut Pool<C>, place: Place<C>)
         Ok(None) => pool.keep(child, reservation),
         Ok(Some(_)) => pool.reap(),
         Err(_) => pool.lose(),
+    }
+}
+
+/// Counts as many children as this, which were lost before they could be given: each as given and
+/// as lost. It is meant for a handle only.
+pub fn pool_lose<C>(pool: &mut Pool<C>, count: usize)
+    ensures { Loses count pool.old pool.new }
+{
+    if count > 0 {
+        pool.given = pool.given.saturating_add(count as u64);
+        pool.lost = pool.lost.saturating_add(count as u64);
     }
 }
 

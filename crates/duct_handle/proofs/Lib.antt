@@ -1,6 +1,6 @@
 pub mod Beginning
 pub mod Finishing
-pub mod Giving
+pub mod Closing
 pub mod Obeying
 pub mod Polling
 pub mod Sharing

@@ -1,6 +1,6 @@
 -- What ran until it ended: children and workers that are there, and what they store.
-use Rattle.std.specs.Prelude.{◌≡◌, ◌⊎◌, Err, List, map}
-use Rattle.duct_base.specs.Pool.{PoolView}
+use Rattle.std.specs.Prelude.{◌≡◌, ◌⊎◌, Err, List, length, map}
+use Rattle.duct_base.specs.Pool.{Loses, PoolView}
 use Rattle.duct_system.specs.declared.error.Error.{Error}
 use Rattle.duct_system.specs.declared.error.Error.TheVariants as error
 use Rattle.duct_status.specs.Outcome.{Concludes}
@@ -12,7 +12,6 @@ use Rattle.duct_system.specs.SystemViews.{SystemViews}
 use Rattle.duct_running.specs.Allowed.{StoresAllowed}
 use Rattle.duct_running.specs.Polled.{ReturnsOutcome, StaysSame}
 use Rattle.duct_running.specs.Stored.{Bytes, stored_in}
-use Rattle.duct_system.specs.declared.system.Kind.TheVariants.{Other}
 use Rattle.duct_running.specs.NumbersView.{NumbersView}
 
 module _ {S E C F D : Type 0} (views : SystemViews S E C F D (Unit {0}) Bytes) where
@@ -40,10 +39,10 @@ module _ {S E C F D : Type 0} (views : SystemViews S E C F D (Unit {0}) Bytes) w
       RanUntil running (λ waited. holds waited × PoolGets views waited.children before after)
 
 module _ {S E C F D V W : Type 0} (views : SystemViews S E C F D V W) where
-  -- children were given to the pool: those of these numbers, or, with the error `Other`, any
-  abbrev pub AreGiven : NumbersView → Error → PoolView C → PoolView C → Type 0
-  AreGiven numbers e before after =
-      (children : List C)
-      × ((map (λ c. c.number) (map views.child children) ≡ numbers.children)
-      ⊎ (e ≡ error.System (record { kind = Other })))
-      × PoolGets views children before after
+  -- children were given to the pool: those of these numbers; or others, and as many as these were
+  -- lost
+  abbrev pub AreGiven : NumbersView → PoolView C → PoolView C → Type 0
+  AreGiven numbers before after =
+      (children : List C) × (given : PoolView C) × PoolGets views children before given
+      × (((map (λ c. c.number) (map views.child children) ≡ numbers.children) × (after ≡ given))
+      ⊎ Loses (length numbers.children) given after)

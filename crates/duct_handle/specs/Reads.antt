@@ -7,6 +7,7 @@ use Rattle.duct_system.specs.declared.error.Error.TheVariants as error
 use Rattle.duct_system.specs.declared.system.Fault.{Fault}
 use Rattle.duct_system.specs.declared.system.Output.{Output}
 use Rattle.duct_system.specs.SystemViews.{SystemViews}
+use Rattle.duct_running.specs.Polled.{Polled}
 use Rattle.duct_running.specs.Stored.{Bytes}
 use Rattle.duct_handle.specs.HandleView.{HandleView, SeenView}
 use Rattle.duct_handle.specs.Waited.{IsOf, Waited, at_end}
@@ -18,6 +19,19 @@ use Rattle.duct_system.specs.Kinds.{name_of}
 abbrev pub at_close : Result (Arc Output Global) Error → Result ℕ Error
 at_close (Ok output) = Ok 0
 at_close (Err e) = Err e
+
+-- a read into this much room: the pipe gave some bytes, or there was no room; or the pipe failed
+-- with a fault; or it gave nothing, and the read waited for what runs, which may return this
+abbrev pub ReadsOnce : (Polled → Type 0) → ℕ → Result ℕ Error → Type 0
+ReadsOnce may_return room result =
+    ((count : ℕ) × (result ≡ Ok count) × ((0 < count) ⊎ (room ≡ 0)))
+    ⊎ ((fault : Fault) × (0 < room) × (result ≡ Err (error.System fault)))
+    ⊎ ((waited : Result (Arc Output Global) Error) × (0 < room) × may_return (at_end waited)
+    × (result ≡ at_close waited))
+
+-- a wait may return an output
+abbrev pub HasOutput : (Polled → Type 0) → Type 0
+HasOutput may_return = (output : Arc Output Global) × may_return (Ok (Some output))
 
 -- the token knows an output of this handle
 abbrev pub KnowsOutput : HandleView → SeenView → Type 0

@@ -1,16 +1,16 @@
 //! How a handle is made of what runs, and how it is given up.
-ghost use Rattle.std.specs.Prelude.{◌≡◌, ◌≤◌, List, [], length, map, vec_capacity, IfOk, IsOkUnless, None};
+ghost use Rattle.std.specs.Prelude.{◌≡◌, ◌≤◌, [], length, map, vec_capacity, IfOk, IsOkUnless, None};
 ghost use Rattle.std.specs.Arc.{arc_value};
 ghost use Rattle.duct_status.specs.ShapeView.{command_count, input_count, shape_view};
-ghost use Rattle.duct_run.specs.Requested.{PoolGets};
 ghost use Rattle.duct_running.specs.NumbersView.{HaveRoom, numbers_of, numbers_view};
 ghost use Rattle.duct_running.specs.Stored.{AreUnasked};
+ghost use Rattle.duct_handle.specs.Finished.{AreGiven};
 
 use crate::handle::Handle;
 use crate::lock::Lock;
 use crate::published::Published;
 use duct_base::error::Error;
-use duct_base::pool::Pool;
+use duct_base::pool::{Pool, pool_lose};
 use duct_base::status::Shape;
 use duct_base::system::System;
 use duct_running::numbers::Numbers;
@@ -122,16 +122,20 @@ pub(crate) fn into_locked<S: System>(handle: Handle<S>) -> (Running<S>, Arc<Shap
     (lock.into_running(), shape, numbers)
 }
 
-// Gives the children of what a lock held to a pool.
-fn give_up_released<S: System>(
+// Gives the children of what a lock held to a pool. Where they don't have the numbers that were kept
+// outside the lock, which no start causes, as many as those are counted as lost besides.
+pub(crate) fn give_up_released<S: System>(
     released: (Running<S>, Arc<Shape>, Numbers),
     pool: &mut Pool<S::Child>,
 )
-    ensures { PoolGets ⟦<S as Viewed>⟧.views released.0.children pool.old pool.new }
+    ensures { AreGiven ⟦<S as Viewed>⟧.views (numbers_view released.2) pool.old pool.new }
 {
     let (running, shape, numbers) = released;
-    drop((shape, numbers));
+    let is_known = running.is_of(&shape, &numbers);
     running.give_up(pool);
+    if !is_known {
+        pool_lose(pool, numbers.children.len());
+    }
 }
 
 impl<S: System> Handle<S> {
@@ -143,8 +147,7 @@ impl<S: System> Handle<S> {
     /// Nothing is killed and nothing is waited for. The workers go on by themselves. It allocates
     /// nothing and can't fail.
     pub fn give_up(self, pool: &mut Pool<S::Child>)
-        ensures { (children : List S.Child)
-            × PoolGets ⟦<S as Viewed>⟧.views children pool.old pool.new }
+        ensures { AreGiven ⟦<S as Viewed>⟧.views self.numbers pool.old pool.new }
     {
         give_up_released(into_locked(self), pool);
     }

@@ -6,10 +6,10 @@ ghost use Rattle.duct_run.specs.Requested.{PoolGets};
 ghost use Rattle.duct_running.specs.Answered.{IsAnswer, IsConcluded};
 ghost use Rattle.duct_running.specs.Polled.{IsOutput};
 ghost use Rattle.duct_status.specs.ReplyView.{answered};
-ghost use Rattle.duct_running.specs.NumbersView.{numbers_of, numbers_view};
+ghost use Rattle.duct_running.specs.NumbersView.{numbers_view};
 ghost use Rattle.duct_handle.specs.Finished.{AreGiven};
 
-use crate::buffers::into_locked;
+use crate::buffers::{give_up_released, into_locked};
 use crate::handle::Handle;
 use crate::poll::mismatch_error;
 use duct_base::error::Error;
@@ -87,7 +87,7 @@ pub(crate) fn output_or_give_up<S: System>(
 }
 
 // Does the same with what a lock held. Where that doesn't have the shape and the numbers that were
-// kept outside the lock, it fails, and its children are given to the pool.
+// kept outside the lock, it fails, and gives it up.
 fn checked_output_or_give_up<S: System>(
     alloc: Global,
     released: (Running<S>, Arc<Shape>, Numbers),
@@ -99,15 +99,12 @@ fn checked_output_or_give_up<S: System>(
     ensures err { IfErr result (λ e. (waited ≡ Err e) ⊎ (e ≡ Error.Memory)
         ⊎ (e ≡ Error.System (record { kind = Kind.Other }))) }
     ensures kept { OnOk result (pool.new ≡ pool.old) }
-    ensures same { IfErr result (λ e.
-        (numbers_of ⟦<S as Viewed>⟧.views released.0 ≡ numbers_view released.2)
-        ⊎ (e ≡ Error.System (record { kind = Kind.Other }))) }
     ensures given { OnErr result
-        (PoolGets ⟦<S as Viewed>⟧.views released.0.children pool.old pool.new) }
+        (AreGiven ⟦<S as Viewed>⟧.views (numbers_view released.2) pool.old pool.new) }
 {
     let (ran, shape, numbers) = released;
     if !ran.is_of(&shape, &numbers) {
-        ran.give_up(pool);
+        give_up_released((ran, shape, numbers), pool);
         return Err(mismatch_error());
     }
     output_or_give_up(alloc, ran, waited, pool)
@@ -127,8 +124,8 @@ impl<S: System> Handle<S> {
         ensures err { IfErr result
             (λ e. IsAnswer ⟦<S as Viewed>⟧.views (shape_view self.shape) self.numbers (Err e)) }
         ensures kept { OnOk result (pool.new ≡ pool.old) }
-        ensures given { IfErr result
-            (λ e. AreGiven ⟦<S as Viewed>⟧.views self.numbers e pool.old pool.new) }
+        ensures given { OnErr result
+            (AreGiven ⟦<S as Viewed>⟧.views self.numbers pool.old pool.new) }
     {
         let waited = self.wait(rt);
         let alloc = self.alloc;

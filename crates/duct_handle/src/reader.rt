@@ -1,11 +1,10 @@
 //! The handle of an expression whose stdout is read from a pipe while it runs.
-ghost use Rattle.std.specs.Prelude.{ℕ, ◌≡◌, ◌<◌, ◌≤◌, List, length, IfOk, Ok, None};
-ghost use Rattle.duct_system.specs.declared.error.Error.TheVariants as error;
+ghost use Rattle.std.specs.Prelude.{ℕ, ◌≡◌, ◌<◌, ◌≤◌, length, IfOk, Ok, None};
 ghost use Rattle.duct_system.specs.declared.system.Order.TheVariants.{Kill};
 ghost use Rattle.duct_status.specs.ShapeView.{shape_view};
-ghost use Rattle.duct_run.specs.Requested.{PoolGets};
 ghost use Rattle.duct_running.specs.Answered.{IsAnswer};
 ghost use Rattle.duct_running.specs.Allowed.{OneRuns};
+ghost use Rattle.duct_handle.specs.Finished.{AreGiven};
 ghost use Rattle.duct_handle.specs.Obeyed.{IsObeyed};
 ghost use Rattle.duct_handle.specs.Reads.{ClosesAs, KnowsOutput, ReadsAs};
 
@@ -145,8 +144,7 @@ impl<S: System, R: Drop> ReaderHandle<S, R> {
     /// Closes the pipe and gives the children to a pool, as `Handle::give_up` does. A command that
     /// goes on writing to the pipe gets a broken pipe. It doesn't block and can't fail.
     pub fn give_up(self, pool: &mut Pool<S::Child>)
-        ensures { (children : List S.Child)
-            × PoolGets ⟦<S as Viewed>⟧.views children pool.old pool.new }
+        ensures { AreGiven ⟦<S as Viewed>⟧.views self.numbers pool.old pool.new }
     {
         let ReaderHandle { rt, handle, pipe } = self;
         drop((rt, pipe));

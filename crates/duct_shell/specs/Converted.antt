@@ -1,6 +1,6 @@
 -- What a failure becomes as an `io::Error`, an `io::Error` as an error of the library, and what is
--- returned by a read of a shared reader, and of an expression that std's calls read.
-use Rattle.std.specs.Prelude.{◌≡◌, ◌⊎◌, Ok, Err, Some, ℕ, ◌<◌, Result}
+-- returned of an expression that std's calls read.
+use Rattle.std.specs.Prelude.{◌≡◌, ◌⊎◌, Ok, Err, Some, Result}
 use Rattle.std.specs.declared.io.ErrorKind.{ErrorKind}
 use Rattle.std.specs.declared.io.ErrorKind.TheVariants as kind
 use Rattle.std.specs.IoError.{error_kind}
@@ -20,22 +20,6 @@ use Rattle.duct_system.specs.SystemViews.{SystemViews}
 use Rattle.duct_running.specs.Answered.{IsAnswer}
 use Rattle.duct_running.specs.Stored.{Bytes}
 use Rattle.duct_handle.specs.HandleView.{HandleView}
-use Rattle.duct_running.specs.Polled.{Polled}
-use Rattle.duct_handle.specs.Waited.{at_end}
-use Rattle.duct_handle.specs.Reads.{at_close}
-
--- a read into this much room: the pipe gave some bytes, or there was no room; or the pipe failed
--- with a fault; or it gave nothing, and the read waited for what runs, which may return this
-abbrev pub ReadsOnce : (Polled → Type 0) → ℕ → Result ℕ Error → Type 0
-ReadsOnce may_return room result =
-    ((count : ℕ) × (result ≡ Ok count) × ((0 < count) ⊎ (room ≡ 0)))
-    ⊎ ((fault : Fault) × (0 < room) × (result ≡ Err (error.System fault)))
-    ⊎ ((waited : Result (Arc Output Global) Error) × (0 < room) × may_return (at_end waited)
-    × (result ≡ at_close waited))
-
--- a wait may return an output
-abbrev pub HasOutput : (Polled → Type 0) → Type 0
-HasOutput may_return = (output : Arc Output Global) × may_return (Ok (Some output))
 
 -- the error is a fault of this kind
 abbrev pub IsFault : Kind → Error → Type 0

@@ -7,7 +7,7 @@ ghost use Rattle.duct_system.specs.declared.system.Order.{Order};
 ghost use Rattle.duct_system.specs.declared.system.Order.TheVariants.{Kill, Signal};
 ghost use Rattle.duct_running.specs.Polled.{Polled};
 ghost use Rattle.duct_handle.specs.Waited.{IsLate, IsTimely, at_end};
-ghost use Rattle.duct_shell.specs.Converted.{HasOutput, ReadsOnce};
+ghost use Rattle.duct_handle.specs.Reads.{HasOutput, ReadsOnce};
 ghost use Rattle.duct_status.specs.ShapeView.{shape_view};
 ghost use Rattle.duct_running.specs.Allowed.{OneRuns};
 ghost use Rattle.duct_running.specs.Answered.{IsAnswer};

@@ -1,37 +1,8 @@
-use Rattle.std.proofs.Common.{arith, inl, inr, ℕ, ◌≡◌, ◌<◌, Ok, Err, Result}
-use Rattle.duct_system.specs.declared.error.Error.{Error}
 use Rattle.duct_status.specs.ShapeView.{shape_view}
-use Rattle.duct_system.specs.SystemViews.{SystemViews}
 use Rattle.duct_run.proofs.Seeing.{views_of}
 use Rattle.duct_running.specs.Answered.{IsAnswer}
-use Rattle.duct_running.specs.Polled.{Polled}
-use Rattle.duct_running.specs.Stored.{Bytes}
-use Rattle.duct_handle.specs.HandleView.{HandleView, SeenView}
-use Rattle.duct_handle.specs.Reads.{ReadsAs}
-use Rattle.duct_shell.specs.Converted.{HasOutput, ReadsOnce}
+use Rattle.duct_handle.proofs.Closing.{closes_once, reads_once}
 use Rattle.duct_shell.proofs.threads.ReaderHandleSharedReader.read.Goals as goal
-
--- what a read with a token returns, without what its token knows
-reads_once : {S E C F D : Type 0} (views : SystemViews S E C F D (Unit {0}) Bytes)
-    (handle : HandleView) (room : ℕ) (before after : SeenView) (result : Result ℕ Error)
-    → ReadsAs views handle room before after result
-    → ReadsOnce (IsAnswer views (shape_view handle.shape) handle.numbers) room result
-reads_once views handle room before after result (inl r) = inl (r.0, r.1, r.2)
-reads_once views handle room before after result (inr (inl r)) = inr (inl (r.0, r.1, r.2))
-reads_once views handle room before after result (inr (inr r)) =
-    inr (inr (r.0, r.1, r.2.told, r.3))
-
--- a read that is at EOF has waited for an output
-closes_once : (may_return : Polled → Type 0) (room : ℕ) (result : Result ℕ Error)
-    → ReadsOnce may_return room result → result ≡ Ok 0 → 0 < room → HasOutput may_return
-closes_once may_return room result (inl (count, is, inl some)) nothing asked =
-    let none : count ≡ 0 = cc in absurd (omega arith)
-closes_once may_return room result (inl (count, is, inr none)) nothing asked =
-    absurd (omega arith)
-closes_once may_return room result (inr (inl r)) nothing asked = absurd (cc)
-closes_once may_return room result (inr (inr (Ok output, some, told, is))) nothing asked =
-    (output, told)
-closes_once may_return room result (inr (inr (Err e, some, told, is))) nothing asked = absurd (cc)
 
 pub returns-clause-reads : goal.returns-clause-reads
 returns-clause-reads g c =
