@@ -2,4 +2,3 @@ pub mod ActionCounts
 pub mod EffectView
 pub mod ActionListView
 pub mod NodeView
-pub mod Text

@@ -1,6 +1,7 @@
--- The tree of a node and its modifiers, as contracts see them.
-use Rattle.std.specs.Prelude.{map, string_bytes}
-use Rattle.duct_system.specs.SpecView.{var_view}
+-- The tree of a node and its modifiers, as contracts see them, and its debug text.
+use Rattle.std.specs.Prelude.{ℕ, List, [], ◌∷◌, codes, map, string_bytes, Option}
+use Rattle.duct_system.specs.SpecView.{Vars, var_view}
+use Rattle.duct_status.specs.Form.{Form, plain, quote, numbers, texts, joined, text_of}
 use Rattle.std.specs.Arc.{arc_value}
 use Rattle.duct_tree.specs.declared.tree.Modifier.{Modifier}
 use Rattle.duct_tree.specs.declared.tree.Modifier.TheVariants.{StdinBytes, StdinPath, StdinFile, StdinNull, StdoutPath, StdoutFile, StdoutNull, StdoutCapture, StdoutToStderr, StderrPath, StderrFile, StderrNull, StderrCapture, StderrToStdout, StdoutStderrSwap, Dir, Env, EnvRemove, FullEnv, Unchecked, BeforeSpawn}
@@ -36,3 +37,57 @@ abbrev pub node_view : {E H : Type 0} → Node E H → TreeView E H
 node_view (Cmd words) = command (map string_bytes (arc_value words).items)
 node_view (Pipe' p left q right) = pipe (node_view left) (node_view right)
 node_view (Io' modifier p inner) = around (modifier_view modifier) (node_view inner)
+
+-- a name that ends with its opening parenthesis, then a form, then the closing parenthesis
+abbrev pub named : List ℕ → Form → Form
+named name form = joined (plain name ∷ form ∷ plain (codes ")") ∷ [])
+
+-- some variables, with the lead before the first and a comma before each other one
+abbrev pub vars_form : List ℕ → Vars → Form
+vars_form lead [] = plain []
+vars_form lead (variable ∷ vars) =
+    joined (plain lead ∷ quote variable.0 ∷ plain (codes ": ") ∷ quote variable.1
+    ∷ vars_form (codes ", ") vars ∷ [])
+
+-- the form of a modifier; an end and a hook are not shown
+abbrev pub modifier_form : {E H : Type 0} → ModifierView E H → Form
+modifier_form (stdin_bytes bytes) = named (codes "StdinBytes(") (numbers bytes)
+modifier_form (stdin_path path) = named (codes "StdinPath(") (quote path)
+modifier_form (stdin_file end) = plain (codes "StdinFile(<end>)")
+modifier_form stdin_null = plain (codes "StdinNull")
+modifier_form (stdout_path path) = named (codes "StdoutPath(") (quote path)
+modifier_form (stdout_file end) = plain (codes "StdoutFile(<end>)")
+modifier_form stdout_null = plain (codes "StdoutNull")
+modifier_form stdout_capture = plain (codes "StdoutCapture")
+modifier_form stdout_to_stderr = plain (codes "StdoutToStderr")
+modifier_form (stderr_path path) = named (codes "StderrPath(") (quote path)
+modifier_form (stderr_file end) = plain (codes "StderrFile(<end>)")
+modifier_form stderr_null = plain (codes "StderrNull")
+modifier_form stderr_capture = plain (codes "StderrCapture")
+modifier_form stderr_to_stdout = plain (codes "StderrToStdout")
+modifier_form stdout_stderr_swap = plain (codes "StdoutStderrSwap")
+modifier_form (dir path) = named (codes "Dir(") (quote path)
+modifier_form (env name value) =
+    joined (plain (codes "Env(") ∷ quote name ∷ plain (codes ", ") ∷ quote value ∷ plain (codes ")")
+    ∷ [])
+modifier_form (env_remove name) = named (codes "EnvRemove(") (quote name)
+modifier_form (full_env vars) =
+    joined (plain (codes "FullEnv({") ∷ vars_form [] vars ∷ plain (codes "})") ∷ [])
+modifier_form unchecked = plain (codes "Unchecked")
+modifier_form (before_spawn hook ends) = plain (codes "BeforeSpawn(<closure>)")
+
+-- two forms in parentheses after a name
+abbrev pub pair_form : List ℕ → Form → Form → Form
+pair_form name one other =
+    joined (plain name ∷ one ∷ plain (codes ", ") ∷ other ∷ plain (codes ")") ∷ [])
+
+-- the form of a tree
+abbrev pub tree_form : {E H : Type 0} → TreeView E H → Form
+tree_form (command words) = named (codes "Cmd(") (texts words)
+tree_form (pipe left right) = pair_form (codes "Pipe(") (tree_form left) (tree_form right)
+tree_form (around modifier inner) =
+    pair_form (codes "Io(") (modifier_form modifier) (tree_form inner)
+
+-- the text of a tree, where all its texts are printable ASCII; else no promise
+abbrev pub shown : {E H : Type 0} → TreeView E H → Option (List ℕ)
+shown tree = text_of (tree_form tree)

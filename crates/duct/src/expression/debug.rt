@@ -4,7 +4,7 @@ use super::Expression;
 use std::fmt;
 
 impl<E, H> fmt::Debug for Expression<E, H> {
-    ghost use Rattle.duct_tree.specs.Text.{shown};
+    ghost use Rattle.duct_tree.specs.NodeView.{shown};
     ghost use Rattle.duct.specs.TreeView.{tree_view};
 
     ghost debug_output = { λ expression. shown (tree_view expression) };

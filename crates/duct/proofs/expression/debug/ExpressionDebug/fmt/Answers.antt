@@ -1,8 +1,7 @@
 -- The root prints the promised text.
-use Rattle.duct_tree.specs.NodeView.{node_view}
+use Rattle.duct_tree.specs.NodeView.{node_view, tree_form}
 use Rattle.duct_status.specs.Form.{form_text, is_form_printable, printed}
 use Rattle.duct_status.proofs.Printing.{form_prints, displays_if}
-use Rattle.duct_tree.specs.Text.{tree_form}
 use Rattle.duct.proofs.expression.debug.ExpressionDebug.fmt.Goals as goal
 
 pub returns : goal.returns

@@ -1,4 +1,0 @@
-use Rattle.duct.proofs.expression.Expression.stdout_file.Goals as goal
-
-pub returns-clause-tree : goal.returns-clause-tree
-returns-clause-tree g c = c.around.ensures.tree
