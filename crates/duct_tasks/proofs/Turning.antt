@@ -1,44 +1,49 @@
--- Turns of tasks, of which one is added, or has gone on.
-use Rattle.std.proofs.Common.{◌≡◌, ◌+◌, ◌<◌, refl, ap, sym, ◌∙◌, subst, inl, inr, arith, ℕ, zero, suc, Bool, if◌then◌else◌, List, [], ◌∷◌, ◌++◌, length, Ok, Err, IfSome, get_or, set, Option}
+-- Turns of tasks, of which one is added, or has gone on, or those that run are sent signal 15.
+use Rattle.std.proofs.Common.{◌≡◌, ◌+◌, ◌<◌, refl, ap, sym, ◌∙◌, subst, inl, inr, arith, ℕ, zero, suc, Bool, true, false, if◌then◌else◌, List, [], ◌∷◌, ◌++◌, length, Ok, Err, Some, None, get_or, set, Option}
+use Rattle.std.specs.List.{AllZip}
 use Rattle.std.proofs.lemmas.List.{length-map}
 use Rattle.duct_base.proofs.Sieving.{counted_more}
 use Rattle.duct_base.specs.Pool.{PoolView, counted}
 use Rattle.duct_system.specs.Started.{children_in}
 use Rattle.duct_system.specs.declared.error.Error.{Error}
-use Rattle.duct_status.specs.ShapeView.{ShapeView, shape_view}
+use Rattle.duct_status.specs.ShapeView.{ShapeView}
 use Rattle.duct_start.specs.Chain.{Allows, Refuses}
 use Rattle.duct_start.specs.Running.{RunningView}
-use Rattle.duct_start.specs.ShapeOfTree.{shape_of_tree}
 use Rattle.duct_system.specs.SystemViews.{SystemViews}
-use Rattle.duct_running.specs.Answered.{IsConcludedPoll, ReturnsConclusion}
 use Rattle.duct_running.specs.NumbersView.{NumbersView, numbers_of}
 use Rattle.duct_running.specs.Stored.{Bytes}
 use Rattle.duct_handle.proofs.Beginning.{are_numbers}
-use Rattle.duct_handle.specs.Waited.{at_end}
+use Rattle.duct_handle.specs.Started.{AreNumbers}
 use Rattle.duct.specs.Launched.{LaunchRefused, Launched, Runs, added_between, draining, drains_error, drains_output}
 use Rattle.duct.specs.TreeView.{tree_view}
 use Rattle.duct.specs.declared.expression.Expression.{Expression}
-use Rattle.duct_tasks.specs.Turns.{Advances, Began, End, EndsWith, Goes, GoesTo, InTurn, RanTo, RunsAlike, Turn, gives, seen}
+use Rattle.duct_tasks.proofs.Signalled.{no_orders}
+use Rattle.duct_tasks.specs.Turns.{Advances, Began, EndsWith, Goes, InTurn, IsLast, Turn, gives}
+use Rattle.duct_tasks.specs.Until.{End, RunsAlike}
 use Rattle.duct_tasks.specs.declared.task.Task.{Task}
 use Rattle.duct_tasks.specs.declared.task.Task.TheVariants.{Running, Ended}
 
 module _ {S T A : Type 0} (IsTurn : T → A → ℕ → S → S → Type 0) where
   -- one more task had its turn
-  pub one_more : (tasks : List T) (made : List A) (task : T) (new : A) (given own : ℕ) (from sys left : S)
+  pub one_more : (tasks : List T) (made : List A) (task : T) (new : A) (given own : ℕ)
+      (from sys left : S)
       → task ≡ get_or tasks (length made) task → length made < length tasks
       → InTurn IsTurn tasks made given from sys → IsTurn task new own sys left
       → InTurn IsTurn tasks (made ++ new ∷ []) (given + own) from left
-  one_more [] made task new given own from sys left is some turns turn = absurd (omega (arith, some))
+  one_more [] made task new given own from sys left is some turns turn = absurd
+      (omega (arith, some))
   one_more (t ∷ tasks) [] task new given own from sys left is some turns turn = (
     own,
     left,
-    subst (λ (x : T). IsTurn x new own from left) is (subst (λ (s : S). IsTurn task new own s left) turns.0 turn),
+    subst (λ (x : T). IsTurn x new own from left) is (subst (λ (s : S). IsTurn task new own s left)
+        turns.0 turn),
     0,
     omega (arith, turns.1),
     (refl, refl),
   )
   one_more (t ∷ tasks) (m ∷ made) task new given own from sys left is some turns turn =
-      let rest = one_more tasks made task new turns.3 own turns.1 sys left is (omega (arith, some)) turns.5 turn in (
+      let rest = one_more tasks made task new turns.3 own turns.1 sys left is (omega (arith, some))
+      turns.5 turn in (
         turns.0,
         turns.1,
         turns.2,
@@ -48,16 +53,21 @@ module _ {S T A : Type 0} (IsTurn : T → A → ℕ → S → S → Type 0) wher
       )
 
   -- what one task made went on
-  pub one_on : (at : ℕ) (tasks : List T) (made : List A) (before after : A) (given more : ℕ) (sys left : S)
+  pub one_on : (at : ℕ) (tasks : List T) (made : List A) (before after : A) (given more : ℕ)
+      (sys left : S)
       → before ≡ get_or made at before → at < length made
-      → ((task : T) (own : ℕ) (from to : S) → IsTurn task before own from to → IsTurn task after (own + more) from to)
-      → InTurn IsTurn tasks made given sys left → InTurn IsTurn tasks (set made at after) (given + more) sys left
-  one_on at tasks [] before after given more sys left is some on turns = absurd (omega (arith, some))
+      → ((task : T) (own : ℕ) (from to : S) → IsTurn task before own from to → IsTurn task after
+      (own + more) from to)
+      → InTurn IsTurn tasks made given sys left → InTurn IsTurn tasks (set made at after)
+      (given + more) sys left
+  one_on at tasks [] before after given more sys left is some on turns = absurd
+      (omega (arith, some))
   one_on at [] (m ∷ made) before after given more sys left is some on turns = absurd turns
   one_on zero (task ∷ tasks) (m ∷ made) before after given more sys left is some on turns = (
     turns.0 + more,
     turns.1,
-    on task turns.0 sys turns.1 (subst (λ (a : A). IsTurn task a turns.0 sys turns.1) (sym is) turns.2),
+    on task turns.0 sys turns.1 (subst (λ (a : A). IsTurn task a turns.0 sys turns.1) (sym is)
+        turns.2),
     turns.3,
     omega (arith, turns.4),
     turns.5,
@@ -71,62 +81,106 @@ module _ {S T A : Type 0} (IsTurn : T → A → ℕ → S → S → Type 0) wher
     one_on at tasks made before after turns.3 more turns.1 left is (omega (arith, some)) on turns.5,
   )
 
--- what has ended, or was killed, was spent
-pub goes_to : {S E C F D : Type 0} (views : SystemViews S E C F D (Unit {0}) Bytes)
-    (before after : RunningView C F D) (last : Option End) {had has : ℕ} → RunsAlike views before after
-    → IfSome last (λ end. ReturnsConclusion views after (at_end end)) → (failed : Bool) → failed ≡ gives last
-    → has ≡ counted had (if failed then length (numbers_of views after).children else 0)
-    → (given : ℕ) × GoesTo views (seen views before) last given × (has ≡ counted had given)
-goes_to views before after last alike ended failed is count =
-    let given : ℕ = if failed then length (numbers_of views after).children else 0 in
-    let goes : GoesTo views (seen views after) last given =
-    (ended, ap (λ (b : Bool). if b then length (numbers_of views after).children else 0) is) in
-    (given, subst (λ (s : ShapeView × NumbersView). GoesTo views s last given) alike goes, count)
-
 module _ {S E C F D : Type 0} (views : SystemViews S E C F D (Unit {0}) Bytes) {H : Type 0}
     (allows : Allows H) (refuses : Refuses H) where
-  ran : (root : Expression E H) (sys left : S) (running : RunningView C F D) (end : End)
-      → Began views allows refuses root sys left (numbers_of views running)
-      → shape_view running.shape ≡ shape_of_tree (tree_view root)
-      → ReturnsConclusion views running (at_end end) → RanTo views allows refuses root end sys left
-  ran root sys left running end began shape ends = (
-    numbers_of views running,
-    began,
-    subst (λ (s : ShapeView). IsConcludedPoll views.may_answer views.feed_says views.drain_says s (numbers_of views running) (at_end end)) shape ends,
+  -- what was started has the same shape and numbers later
+  pub began_on : (root : Expression E H) (sys left : S) (before after : RunningView C F D)
+      → RunsAlike views before after → Began views allows refuses root sys left before
+      → Began views allows refuses root sys left after
+  began_on root sys left before after alike began = record {
+    asked = began.asked;
+    shape_is = ap (λ (s : ShapeView × NumbersView). s.0) alike ∙ began.shape_is;
+    are_numbers = subst (λ (n : NumbersView). AreNumbers (drains_output draining (tree_view root))
+        (drains_error draining (tree_view root)) (added_between views sys left) n)
+        (sym (ap (λ (s : ShapeView × NumbersView). s.1) alike)) began.are_numbers;
+  }
+
+  -- what has ended or was killed, with its children given to a pool unless it has an output
+  pub ends_with : (sent : Bool) (root : Expression E H) (last : Option End) (sys left : S)
+      (waited : RunningView C F D)
+      (own more : ℕ) → own ≡ 0 → Began views allows refuses root sys left waited → IsLast views sent
+      last waited
+      → more ≡ (if gives last then length (numbers_of views waited).children else 0)
+      → EndsWith views allows refuses sent root last (own + more) sys left
+  ends_with sent root (Some (Ok output)) sys left waited own more none began ends count =
+      ((waited, began, ends), omega (arith, none, count))
+  ends_with sent root (Some (Err e)) sys left waited own more none began ends count = (
+    inl (waited, began, ends),
+    omega (
+      arith,
+      none,
+      count,
+      ap
+          (λ (numbers : List ℕ). length numbers) began.are_numbers.children_are,
+    ),
   )
+  ends_with sent root None sys left waited own more none began ends count = (
+    (waited, began, ends),
+    omega (
+      arith,
+      none,
+      count,
+      ap (λ (numbers : List ℕ). length numbers)
+          began.are_numbers.children_are,
+    ),
+  )
+
+  -- what had ended before signal 15 was sent
+  had : (from to : Bool) → (from ≡ true → to ≡ true) → (root : Expression E H) (end : End)
+      (given : ℕ) (sys left : S)
+      → EndsWith views allows refuses from root (Some end) given sys left
+      → EndsWith views allows refuses to root (Some end) given sys left
+  had false false grows root end given sys left ends = ends
+  had true true grows root end given sys left ends = ends
+  had true false grows root end given sys left ends = absurd
+      (let no : false ≡ true = grows refl in cc)
+  had false true grows root (Ok output) given sys left (ran, count) =
+      ((ran.0, ran.1, (inl ran.2.0, ran.2.1)), count)
+  had false true grows root (Err e) given sys left (inl ran, count) =
+      (inl (ran.0, ran.1, (inl ran.2.0, ran.2.1)), count)
+  had false true grows root (Err e) given sys left (inr refused, count) = (inr refused, count)
 
   -- a task that had its turn and goes on
-  pub turn_on : (before after : Task (RunningView C F D)) (more : ℕ) → Advances views before after more
-      → (root : Expression E H) (own : ℕ) (sys left : S)
-      → Turn views allows refuses root before own sys left → Turn views allows refuses root after (own + more) sys left
-  turn_on (Running before) (Running after) more goes root own sys left turn = (
-    subst (λ (n : NumbersView). Began views allows refuses root sys left n) (sym (ap (λ (s : ShapeView × NumbersView). s.1) goes.0)) turn.0,
-    ap (λ (s : ShapeView × NumbersView). s.0) goes.0 ∙ turn.1,
-    omega (arith, goes.1, turn.2),
+  pub turn_on : (from to : Bool) → (from ≡ true → to ≡ true) →
+      (before after : Task (RunningView C F D)) (more : ℕ)
+      → Advances views from to before after more → (root : Expression E H) (own : ℕ) (sys left : S)
+      → Turn views allows refuses from root before own sys left
+      → Turn views allows refuses to root after (own + more) sys left
+  turn_on from to grows (Running before) (Running after) more goes root own sys left turn = (
+    began_on root sys left before after goes.0 turn.0,
+    goes.1 turn.1,
+    omega
+        (arith, goes.2, turn.2),
   )
-  turn_on (Running before) (Ended (Ok output)) more goes root own sys left turn =
-      (ran root sys left before (Ok output) turn.0 turn.1 goes.0, omega (arith, goes.1, turn.2))
-  turn_on (Running before) (Ended (Err e)) more goes root own sys left turn =
-      (inl (ran root sys left before (Err e) turn.0 turn.1 goes.0), omega (arith, goes.1, turn.2, ap (λ (numbers : List ℕ). length numbers) turn.0.are_numbers.children_are))
-  turn_on (Ended end) after more goes root own sys left turn =
+  turn_on from to grows (Running before) (Ended end) more goes root own sys left turn =
+      ends_with to root (Some end) sys left goes.0 own more turn.2
+      (began_on root sys left before goes.0 goes.1 turn.0)
+      (goes.2 turn.1) goes.3
+  turn_on from to grows (Ended end) after more goes root own sys left turn =
       let none : own + more ≡ own = omega (arith, goes.1) in
-      subst (λ (a : Task (RunningView C F D)). Turn views allows refuses root a (own + more) sys left) (sym goes.0)
-      (subst (λ (n : ℕ). EndsWith views allows refuses root end n sys left) (sym none) turn)
+      subst (λ (a : Task (RunningView C F D)). Turn views allows refuses to root a (own + more) sys
+      left) (sym goes.0)
+      (subst (λ (n : ℕ). EndsWith views allows refuses to root (Some end) n sys left) (sym none)
+      (had from to grows root end own sys left turn))
 
   -- a task that was started
-  pub launched : (root : Expression E H) (sys left : S) (pool kept : PoolView C) (running : RunningView C F D)
+  pub launched : (root : Expression E H) (sys left : S) (pool kept : PoolView C)
+      (running : RunningView C F D)
       → Launched views allows draining root sys left pool kept (Runs views running)
-      → (given : ℕ) × Turn views allows refuses root (Running running) given sys left × (kept.given ≡ counted pool.given given)
+      → (given : ℕ) × Turn views allows refuses false root (Running running) given sys left ×
+      (kept.given ≡ counted pool.given given)
   launched root sys left pool kept running l =
       let tree = tree_view root in (
         0,
         (
           record {
             asked = l.asked;
-            are_numbers = are_numbers views.child views.feed views.drain tree (drains_output draining tree) (drains_error draining tree)
+            shape_is = l.makes.shape_is;
+            are_numbers = are_numbers views.child views.feed views.drain tree
+                (drains_output draining tree) (drains_error draining tree)
                 (added_between views sys left) running (numbers_of views running) l.makes refl;
           },
-          l.makes.shape_is,
+          no_orders views running.children l.makes.unasked,
           refl,
         ),
         l.swept.given_is,
@@ -135,51 +189,110 @@ module _ {S E C F D : Type 0} (views : SystemViews S E C F D (Unit {0}) Bytes) {
   -- one that was not
   pub refused : (root : Expression E H) (sys left : S) (pool kept : PoolView C) (e : Error)
       → LaunchRefused views allows refuses draining root sys left pool kept e
-      → (given : ℕ) × Turn views allows refuses root (Ended (Err e)) given sys left × (kept.given ≡ counted pool.given given)
+      → (given : ℕ) × EndsWith views allows refuses false root (Some (Err e)) given sys left ×
+      (kept.given ≡ counted pool.given given)
   refused root sys left pool kept e l = (
     length (children_in (added_between views sys left)),
     (inr l.asked, refl),
     l.given.3.given_is ∙ ap (λ (n : ℕ). counted pool.given n)
-        (sym (length-map l.given.0 (λ c. c.number)) ∙ ap (λ (numbers : List ℕ). length numbers) l.given.1),
+        (sym (length-map l.given.0 (λ c. c.number)) ∙ ap (λ (numbers : List ℕ). length numbers)
+        l.given.1),
   )
+
+  -- the turns of tasks that were sent signal 15 if they ran
+  all_sent : (roots : List (Expression E H)) (befores afters : List (Task (RunningView C F D)))
+      (given : ℕ) (sys left : S)
+      → AllZip (λ before after. Advances views false true before after 0) befores afters
+      → InTurn (Turn views allows refuses false) roots befores given sys left
+      → InTurn (Turn views allows refuses true) roots afters given sys left
+  all_sent roots [] [] given sys left all turns = turns
+  all_sent roots [] (after ∷ afters) given sys left all turns = absurd all
+  all_sent roots (before ∷ befores) [] given sys left all turns = absurd all
+  all_sent [] (before ∷ befores) (after ∷ afters) given sys left all turns = absurd turns
+  all_sent (root ∷ roots) (before ∷ befores) (after ∷ afters) given sys left all turns =
+      let same : turns.0 + 0 ≡ turns.0 = omega arith in
+      let turn : Turn views allows refuses true root after (turns.0 + 0) sys turns.1 =
+      turn_on false true (λ is. refl) before after 0 all.0 root turns.0 sys turns.1 turns.2 in (
+        turns.0,
+        turns.1,
+        subst (λ (n : ℕ). Turn views allows refuses true root after n sys turns.1) same turn,
+        turns.3,
+        turns.4,
+        all_sent roots befores afters turns.3 turns.1 left all.1 turns.5,
+      )
 
 module _ {S E C F D : Type 0} {views : SystemViews S E C F D (Unit {0}) Bytes} {H : Type 0}
     {allows : Allows H} {refuses : Refuses H} {roots : List (Expression E H)} where
   -- something was done, and then more
-  pub goes_on : {others : List (Expression E H)} {one two three : List (Task (RunningView C F D))} {sys mid left : S}
-      {had between has : ℕ} → others ≡ roots
-      → Goes views allows refuses roots one two sys mid had between
-      → Goes views allows refuses others two three mid left between has
-      → Goes views allows refuses roots one three sys left had has
-  goes_on {others} {one} {two} {three} {sys} {mid} {left} {had} {between} {has} same first second =
-      let next = subst (λ (ts : List (Expression E H)). Goes views allows refuses ts two three mid left between has) same second in record {
+  pub goes_on : {others : List (Expression E H)} {from between_ to : Bool}
+      {one two three : List (Task (RunningView C F D))}
+      {sys mid left : S} {had between has : ℕ} → others ≡ roots
+      → Goes views allows refuses from between_ roots one two sys mid had between
+      → Goes views allows refuses between_ to others two three mid left between has
+      → Goes views allows refuses from to roots one three sys left had has
+  goes_on {others} {from} {between_} {to} {one} {two} {three} {sys} {mid} {left} {had} {between}
+      {has} same first second =
+      let next = subst (λ (ts : List (Expression E H)). Goes views allows refuses between_ to ts two
+      three mid left between has) same second in record {
         given = first.given + next.given;
-        counts = next.counts ∙ ap (λ (n : ℕ). counted n next.given) first.counts ∙ counted_more had first.given next.given;
-        turns = λ from so_far turns.
-            let sum : so_far + first.given + next.given ≡ so_far + (first.given + next.given) = omega arith in
-            subst (λ (n : ℕ). InTurn (Turn views allows refuses) roots three n from left) sum
-            (next.turns from (so_far + first.given) (first.turns from so_far turns));
+        counts = next.counts ∙ ap (λ (n : ℕ). counted n next.given) first.counts ∙ counted_more had
+            first.given next.given;
+        turns = λ start so_far turns.
+            let sum : so_far + first.given + next.given ≡ so_far + (first.given + next.given) =
+            omega arith in
+            subst (λ (n : ℕ). InTurn (Turn views allows refuses to) roots three n start left) sum
+            (next.turns start (so_far + first.given) (first.turns start so_far turns));
       }
 
   -- a task went on
-  pub goes_at : (at : ℕ) (tasks : List (Task (RunningView C F D))) (before after : Task (RunningView C F D))
+  pub goes_at : (sent : Bool) (at : ℕ) (tasks : List (Task (RunningView C F D)))
+      (before after : Task (RunningView C F D))
       (sys : S) {had has : ℕ} → before ≡ get_or tasks at before → at < length tasks
-      → (more : ℕ) × Advances views before after more × (has ≡ counted had more)
-      → Goes views allows refuses roots tasks (set tasks at after) sys sys had has
-  goes_at at tasks before after sys is some goes = record {
+      → (more : ℕ) × Advances views sent sent before after more × (has ≡ counted had more)
+      → Goes views allows refuses sent sent roots tasks (set tasks at after) sys sys had has
+  goes_at sent at tasks before after sys is some goes = record {
     given = goes.0;
     counts = goes.2;
-    turns = λ from so_far turns. one_on (Turn views allows refuses) at roots tasks before after so_far goes.0 from sys is some
-        (turn_on views allows refuses before after goes.0 goes.1) turns;
+    turns = λ start so_far turns. one_on (Turn views allows refuses sent) at roots tasks before
+        after so_far goes.0 start sys is some
+        (turn_on views allows refuses sent sent (λ it. it) before after goes.0 goes.1) turns;
   }
 
   -- a task had its turn
-  pub goes_next : (tasks : List (Task (RunningView C F D))) (root : Expression E H) (made : Task (RunningView C F D))
-      {sys left : S} {had has : ℕ} → root ≡ get_or roots (length tasks) root → length tasks < length roots
-      → (own : ℕ) × Turn views allows refuses root made own sys left × (has ≡ counted had own)
-      → Goes views allows refuses roots tasks (tasks ++ made ∷ []) sys left had has
-  goes_next tasks root made {sys} {left} is some turn = record {
+  pub goes_next : (sent : Bool) (tasks : List (Task (RunningView C F D))) (root : Expression E H)
+      (made : Task (RunningView C F D))
+      {sys left : S} {had has : ℕ} → root ≡ get_or roots (length tasks) root → length tasks < length
+      roots
+      → (own : ℕ) × Turn views allows refuses sent root made own sys left × (has ≡ counted had own)
+      → Goes views allows refuses sent sent roots tasks (tasks ++ made ∷ []) sys left had has
+  goes_next sent tasks root made {sys} {left} is some turn = record {
     given = turn.0;
     counts = turn.2;
-    turns = λ from so_far turns. one_more (Turn views allows refuses) roots tasks root made so_far turn.0 from sys left is some turns turn.1;
+    turns = λ start so_far turns. one_more (Turn views allows refuses sent) roots tasks root made
+        so_far turn.0 start sys left is some turns turn.1;
+  }
+
+  -- signal 15 was sent to those that run
+  pub goes_sent : (befores afters : List (Task (RunningView C F D))) (sys : S) (given : ℕ)
+      → AllZip (λ before after. Advances views false true before after 0) befores afters
+      → Goes views allows refuses false true roots befores afters sys sys given given
+  goes_sent befores afters sys given all = record {
+    given = 0;
+    counts = refl;
+    turns = λ start so_far turns.
+        let same : so_far ≡ so_far + 0 = omega arith in
+        subst (λ (n : ℕ). InTurn (Turn views allows refuses true) roots afters n start sys) same
+        (all_sent views allows refuses roots befores afters so_far start sys all turns);
+  }
+
+  -- nothing was done
+  pub goes_nowhere : (sent : Bool) (tasks : List (Task (RunningView C F D))) (sys : S) (given : ℕ)
+      → Goes views allows refuses sent sent roots tasks tasks sys sys given given
+  goes_nowhere sent tasks sys given = record {
+    given = 0;
+    counts = refl;
+    turns = λ start so_far turns.
+        let same : so_far ≡ so_far + 0 = omega arith in
+        subst (λ (n : ℕ). InTurn (Turn views allows refuses sent) roots tasks n start sys) same
+        turns;
   }

@@ -1,5 +1,5 @@
 -- What an expression that runs or is read until a moment of a clock returns, and what it leaves.
-use Rattle.std.specs.Prelude.{ℕ, ◌<◌, ◌≤◌, ◌⊎◌, Ok, Err, pos, Bool, true, false, List, [], ◌∷◌, ◌≡◌, All, map, is_some, IfNone, IfSome, ◌+◌, min, string_bytes, IsUtf8, Option, Result, String}
+use Rattle.std.specs.Prelude.{ℕ, ◌<◌, ◌≤◌, ◌⊎◌, Ok, Err, None, pos, Bool, true, false, List, [], ◌∷◌, ◌≡◌, All, map, is_some, IfNone, IfSome, ◌+◌, min, string_bytes, IsUtf8, Option, Result, String}
 use Rattle.std.specs.Duration.{as_nanos, max_nanos}
 use Rattle.std.specs.declared.time.Duration.{Duration}
 use Rattle.std.specs.declared.alloc.Global.{Global}
@@ -13,7 +13,7 @@ use Rattle.duct_system.specs.declared.system.Kind.TheVariants.{OutOfMemory}
 use Rattle.duct_system.specs.declared.system.Order.{Order}
 use Rattle.duct_system.specs.declared.system.Order.TheVariants.{Kill, Signal}
 use Rattle.duct_system.specs.EntryView.{EntryView}
-use Rattle.duct_system.specs.Started.{children_in, drains_in}
+use Rattle.duct_system.specs.Started.{drains_in}
 use Rattle.duct_system.specs.declared.system.Output.{Output}
 use Rattle.duct_system.specs.declared.system.Said.{Said}
 use Rattle.duct_system.specs.declared.system.Said.TheVariants as said
@@ -26,12 +26,12 @@ use Rattle.duct_start.specs.ShapeOfTree.{shape_of_tree}
 use Rattle.duct_start.specs.Start.{StartSucceeds}
 use Rattle.duct_start.specs.TreeView.{TreeView, around, stdout_capture}
 use Rattle.duct_system.specs.SystemViews.{SystemViews}
-use Rattle.duct_running.specs.Allowed.{OneRuns}
+use Rattle.duct_running.specs.Allowed.{OneIsRunning, OneRuns, StoresAllowed}
 use Rattle.duct_running.specs.Answered.{IsConcludedPoll}
 use Rattle.duct_running.specs.NumbersView.{NumbersView, numbers_of}
 use Rattle.duct_running.specs.Stored.{Bytes}
-use Rattle.duct_running.specs.Ordered.{IsOrdered}
-use Rattle.duct_running.specs.Polled.{ReturnsOutcome, PolledOnce}
+use Rattle.duct_running.specs.Ordered.{ChildrenOrdered, IsOrdered}
+use Rattle.duct_running.specs.Polled.{ReturnsOutcome, PolledOnce, StaysSame}
 use Rattle.duct_handle.specs.Started.{AreNumbers}
 use Rattle.duct_handle.specs.Waited.{at_end}
 use Rattle.duct_handle.specs.ReadsText.{trimmed}
@@ -46,6 +46,12 @@ use Rattle.duct_tasks.specs.declared.late.LateRead.{LateRead}
 -- the clock may show this many nanoseconds or more
 abbrev pub HasReached : (Duration → Type 0) → ℕ → Type 0
 HasReached shows nanos = (moment : Duration) × shows moment × (nanos ≤ as_nanos moment)
+
+-- the clock may show a moment, and then the end of this grace after it, or the greatest moment
+abbrev pub HasPassed : (Duration → Type 0) → Duration → Type 0
+HasPassed shows grace =
+    (moment : Duration) × shows moment
+    × HasReached shows (min (as_nanos moment + as_nanos grace) max_nanos)
 
 -- the clock may show less than this many nanoseconds
 abbrev pub HasShownLess : (Duration → Type 0) → ℕ → Type 0
@@ -62,13 +68,6 @@ module _ (may : ℕ → Order → Bool → Obeyed → Type 0) where
       × (child.orders ≡ []))
       ⊎ ((is_some child.ending ≡ true) × (child.orders ≡ []))
 
-  -- these children were sent signal 15 alone, and then each that had not ended was killed once,
-  -- with this as the result
-  abbrev pub AreStopped : Result (Unit {0}) Error → List ChildView → Type 0
-  AreStopped killed children =
-      (signalled : List ChildView) × All IsSignalled signalled
-      × IsOrdered may Kill signalled killed children
-
 -- it ended in time, and this holds of what it returned; or it was late
 abbrev pub IfDone : {T L : Type 0} → Until T L → (T → Type 0) → Type 0
 IfDone (until.Done value) holds = holds value
@@ -79,12 +78,24 @@ abbrev pub IfLate : {T L : Type 0} → Until T L → (L → Type 0) → Type 0
 IfLate (until.Done value) holds = Unit {0}
 IfLate (until.Late late) holds = holds late
 
+-- how an expression ended
+abbrev pub End : Type 0
+End = Result (Arc Output Global) Error
+
 -- it has ended, and how was concluded; or this holds
-abbrev pub UnlessEnded : Option (Result (Arc Output Global) Error) → Type 0 → Type 0
+abbrev pub UnlessEnded : Option End → Type 0 → Type 0
 UnlessEnded ended holds =
     IfNone ended holds × IfSome ended (λ how. at_end how ≡ Err error.Memory → holds)
 
 module _ {S E C F D : Type 0} (views : SystemViews S E C F D (Unit {0}) Bytes) where
+  -- the shape and the numbers of what runs
+  abbrev pub seen : RunningView C F D → ShapeView × NumbersView
+  seen running = (shape_view running.shape, numbers_of views running)
+
+  -- the shape and the numbers are as before
+  abbrev pub RunsAlike : RunningView C F D → RunningView C F D → Type 0
+  RunsAlike before after = seen after ≡ seen before
+
   -- one of these numbers may say that it runs, or a fault was concluded from what they may return
   abbrev pub MayRun : ShapeView → NumbersView → Type 0
   MayRun shape numbers =
@@ -96,16 +107,53 @@ module _ {S E C F D : Type 0} (views : SystemViews S E C F D (Unit {0}) Bytes) w
   abbrev pub HasNotEnded : RunningView C F D → Type 0
   HasNotEnded running = MayRun (shape_view running.shape) (numbers_of views running)
 
+  -- the outcome of what the children and workers store is that one runs, or it is a fault, and a
+  -- child stores that it runs
+  abbrev pub StoresNoEnd : RunningView C F D → Type 0
+  StoresNoEnd running =
+      ReturnsOutcome views running (Ok None)
+      ⊎ ((fault : Fault) × ReturnsOutcome views running (Err (error.System fault))
+      × OneIsRunning views running)
+
+  -- each result that they store is one that may be returned; and their outcome is how it ended,
+  -- which is a fault only where no child stores that it runs, or no end where this is none
+  pub record StoresEnd (ended : Option End) (running : RunningView C F D) : Type 0 where
+    pub outcome : IfSome ended (λ end. ReturnsOutcome views running (at_end end))
+    pub over : IfSome ended (λ end. (fault : Fault) → at_end end ≡ Err (error.System fault)
+        → OneIsRunning views running → ⊥)
+    pub none : IfNone ended (StoresNoEnd running)
+    pub allowed : ∥ StoresAllowed views running ∥₁
+
   -- the children of what runs were sent signal 15 alone
   abbrev pub AreSignalled : RunningView C F D → Type 0
   AreSignalled running = All (IsSignalled views.may_obey) (map views.child running.children)
+
+  -- what runs was polled, and this is what the last of these polls left
+  abbrev pub WasPolled : RunningView C F D → RunningView C F D → Type 0
+  WasPolled first after =
+      (before : RunningView C F D) × StaysSame views first before
+      × (AreSignalled first → AreSignalled before) × PolledOnce views before after
+
+  -- its children were sent signal 15 alone, and a poll after that was the last: this is how it
+  -- ended, if it had
+  abbrev pub HasLapsed : Option End → RunningView C F D → Type 0
+  HasLapsed ended running =
+      (signalled : RunningView C F D) × AreSignalled signalled
+      × PolledOnce views signalled running × StoresEnd ended running
+
+  -- what ran was sent signal 15 and polled, and then each of its children that had not ended was
+  -- killed, with this as the result
+  abbrev pub IsStopped : Late → RunningView C F D → RunningView C F D → Type 0
+  IsStopped late running killed =
+      (polled : RunningView C F D) × RunsAlike running polled × HasLapsed late.ended polled
+      × RunsAlike polled killed × ChildrenOrdered views Kill polled late.killed killed
 
   -- what was launched had ended when it was polled for the first time
   abbrev pub EndedAtOnce : {H : Type 0} → MadeBy E H
   EndedAtOnce kind tree added =
       (launched : RunningView C F D) × Runs views launched kind tree added
       × (polled : RunningView C F D) × PolledOnce views launched polled
-      × (ended : Result (Arc Output Global) Error) × ReturnsOutcome views polled (at_end ended)
+      × (ended : End) × ReturnsOutcome views polled (at_end ended)
 
   -- this output is the outcome of what the children and workers of the start store; and the clock
   -- showed less than the moment, or they had ended at the first poll
@@ -114,40 +162,35 @@ module _ {S E C F D : Type 0} (views : SystemViews S E C F D (Unit {0}) Bytes) w
       Returns views output kind tree added
       × (HasShownLess shows nanos ⊎ EndedAtOnce kind tree added)
 
-  -- these are the numbers of the children and workers of the entries; one of them might still run
-  -- when the moment was seen; and how it ended was concluded from what they may return, or it is
-  -- `Error::Memory`
+  -- these are the children and workers of the entries, as the last poll left them; one of them
+  -- might still run when the moment was seen; they were sent signal 15 after that and before the
+  -- last poll; and how it ended is the outcome of what they store
   pub record IsLate {H : Type 0} (late : Late) (kind : StartKind) (tree : TreeView E H)
-      (added : List EntryView) (numbers : NumbersView) : Type 0 where
-    pub are_numbers : AreNumbers (drains_output kind tree) (drains_error kind tree) added numbers
-    pub may_run : MayRun (shape_of_tree tree) numbers
-    pub ended : IfSome late.ended (λ ended. IsConcludedPoll views.may_answer views.feed_says
-        views.drain_says (shape_of_tree tree) numbers (at_end ended))
+      (added : List EntryView) (polled : RunningView C F D) : Type 0 where
+    pub shape_is : shape_view polled.shape ≡ shape_of_tree tree
+    pub are_numbers : AreNumbers (drains_output kind tree) (drains_error kind tree) added
+        (numbers_of views polled)
+    pub may_run : MayRun (shape_of_tree tree) (numbers_of views polled)
+    pub lapsed : HasLapsed late.ended polled
 
-  -- this runs what was late, and each of its children was sent signal 15 and then killed
+  -- this runs what was late, after each of its children that had not ended was killed
   abbrev pub Stops : {H : Type 0} → Late → RunningView C F D → MadeBy E H
   Stops late running kind tree added =
-      IsLate late kind tree added (numbers_of views running)
-      × AreStopped views.may_obey late.killed (map views.child running.children)
+      (polled : RunningView C F D) × IsLate late kind tree added polled × RunsAlike polled running
+      × ChildrenOrdered views Kill polled late.killed running
 
-  -- the pool was given each child that the entries name, in order; each was sent signal 15 and
-  -- then killed, with this as the result
-  abbrev pub LeavesStopped : Result (Unit {0}) Error → List EntryView → PoolView C → PoolView C
-      → Type 0
-  LeavesStopped killed added before after =
-      (given : List ChildView) × (map (λ child. child.number) given ≡ children_in added)
-      × AreStopped views.may_obey killed given
-      × TakesIn views.may_answer given (pool_view views.child before) (pool_view views.child after)
-
-  -- a start that succeeded and was late: its requests are its plan, and the pool was given its
-  -- children, each of which was sent signal 15 and then killed
+  -- a start that succeeded and was late: its requests are its plan; each of its children that had
+  -- not ended at the last poll was killed once, with the result, and the pool was given all
   pub record LaunchStopped {H : Type 0} (allows : Allows H) (root : Expression E H) (sys after : S)
       (before left : PoolView C) (late : Late) : Type 0 where
     pub asked : StartSucceeds allows views.number_of (tree_view root) (plan_of (tree_view root))
         (views.journal sys) (views.journal after)
-    pub is_late : (numbers : NumbersView)
-        × IsLate late draining (tree_view root) (added_between views sys after) numbers
-    pub given : LeavesStopped late.killed (added_between views sys after) before left
+    pub polled : RunningView C F D
+    pub is_late : IsLate late draining (tree_view root) (added_between views sys after) polled
+    pub given : List ChildView
+    pub killed : IsOrdered views.may_obey Kill (map views.child polled.children) late.killed given
+    pub pool : TakesIn views.may_answer given (pool_view views.child before)
+        (pool_view views.child left)
 
 -- the last moment of a read, in nanoseconds: a second after the grace, or the greatest moment
 abbrev pub last_read : ℕ → ℕ → ℕ

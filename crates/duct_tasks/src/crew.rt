@@ -1,6 +1,8 @@
 //! The tasks that were started, of which only so many run.
 ghost use Rattle.std.specs.Prelude.{ℕ, ◌≡◌, ◌+◌, ◌<◌, ◌≤◌, ◌⊎◌, true, false, [], length, sum_by, vec_capacity, IfOk};
-ghost use Rattle.duct_tasks.specs.Turns.{AreEnds, Goes, GoesOn, failed_of, running_of};
+ghost use Rattle.std.specs.List.{AllZip};
+ghost use Rattle.duct_tasks.specs.Turns.{Advances, AreEnds, Goes, GoesOn, IsHeeded, failed_of, running_of};
+ghost use Rattle.duct_tasks.specs.declared.many.AtFailure.TheVariants.{Stop};
 
 use crate::many::{AtFailure, Progress, Tasks};
 use crate::task::{Task, advance, ends_of, has_failed, running, started, terminate};
@@ -24,6 +26,7 @@ pub(crate) struct Crew<'t, E, H, R> {
     pub ghost few: { running ≤ tasks.limit },
     pub ghost runs: { running ≡ sum_by running_of started.items },
     pub ghost fails: { failed ≡ true → 0 < sum_by failed_of started.items },
+    pub ghost stops: { stopped ≡ true → (failed ≡ true) × (tasks.at_failure ≡ Stop) },
     pub ghost room: { length tasks.all.now ≤ vec_capacity started },
 }
 
@@ -33,6 +36,7 @@ impl<'t, H: Hook, S: System> Crew<'t, S::End, H, Running<S>> {
         requires some { 0 < tasks.limit }
         ensures tasks { IfOk result (λ crew. crew.tasks ≡ tasks.entry) }
         ensures none { IfOk result (λ crew. crew.started.items ≡ []) }
+        ensures unasked { IfOk result (λ crew. crew.stopped ≡ false) }
     {
         let started = Vec::with_capacity(alloc, tasks.all.len())?;
         Ok(Crew {
@@ -64,9 +68,9 @@ impl<'t, H: Hook, S: System> Crew<'t, S::End, H, Running<S>> {
         requires goes_on { GoesOn self.old.tasks.at_failure self.old.failed }
         ensures tasks { self.new.tasks ≡ self.old.tasks }
         ensures one { length self.new.started.items ≡ length self.old.started.items + 1 }
-        ensures turn { Goes ⟦<S as Viewed>⟧.views H.allows H.refuses self.old.tasks.all.now
-            self.old.started.items self.new.started.items sys.old sys.new pool.old.given
-            pool.new.given }
+        ensures turn { Goes ⟦<S as Viewed>⟧.views H.allows H.refuses self.old.stopped
+            self.new.stopped self.old.tasks.all.now self.old.started.items self.new.started.items
+            sys.old sys.new pool.old.given pool.new.given }
     {
         let _limit = self.tasks.limit; // it is below 2^64
         let made = started(sys, pool, &self.tasks.all[self.started.len()]);
@@ -84,9 +88,9 @@ impl<'t, H: Hook, S: System> Crew<'t, S::End, H, Running<S>> {
     )
         requires { T.IsAlwaysCallable tell.now }
         ensures tasks { self.new.tasks ≡ self.old.tasks }
-        ensures turns { Goes ⟦<S as Viewed>⟧.views H.allows H.refuses self.old.tasks.all.now
-            self.old.started.items self.new.started.items sys.old sys.new pool.old.given
-            pool.new.given }
+        ensures turns { Goes ⟦<S as Viewed>⟧.views H.allows H.refuses self.old.stopped
+            self.new.stopped self.old.tasks.all.now self.old.started.items self.new.started.items
+            sys.old sys.new pool.old.given pool.new.given }
         ensures over { (length self.new.tasks.all.now ≤ length self.new.started.items)
             ⊎ (self.new.running ≡ 0 → GoesOn self.new.tasks.at_failure self.new.failed → ⊥) }
     {
@@ -105,8 +109,8 @@ impl<'t, H: Hook, S: System> Crew<'t, S::End, H, Running<S>> {
         ensures tasks { self.new.tasks ≡ self.old.tasks }
         ensures count { length self.new.started.items ≡ length self.old.started.items }
         ensures turns { (sys : S) → Goes ⟦<S as Viewed>⟧.views H.allows H.refuses
-            self.old.tasks.all.now self.old.started.items self.new.started.items sys sys
-            pool.old.given pool.new.given }
+            self.old.stopped self.new.stopped self.old.tasks.all.now self.old.started.items
+            self.new.started.items sys sys pool.old.given pool.new.given }
     {
         let task = &mut self.started[at];
         self.running -= running(task);
@@ -118,11 +122,12 @@ impl<'t, H: Hook, S: System> Crew<'t, S::End, H, Running<S>> {
 
     /// Polls the tasks that run.
     pub fn poll_all<T: Fn(usize, Progress<'_>)>(&mut self, pool: &mut Pool<S::Child>, tell: &T)
-        requires { T.IsAlwaysCallable tell.now }
+        requires told { T.IsAlwaysCallable tell.now }
+        requires stops { IsHeeded self.old.tasks.at_failure self.old.failed self.old.stopped }
         ensures tasks { self.new.tasks ≡ self.old.tasks }
         ensures turns { (sys : S) → Goes ⟦<S as Viewed>⟧.views H.allows H.refuses
-            self.old.tasks.all.now self.old.started.items self.new.started.items sys sys
-            pool.old.given pool.new.given }
+            self.old.stopped self.new.stopped self.old.tasks.all.now self.old.started.items
+            self.new.started.items sys sys pool.old.given pool.new.given }
     {
         for at in 0..self.started.len() {
             if self.poll(pool, at) {
@@ -134,9 +139,10 @@ impl<'t, H: Hook, S: System> Crew<'t, S::End, H, Running<S>> {
     // Sends signal 15 to the tasks that run.
     fn terminate(&mut self)
         ensures tasks { self.new.tasks ≡ self.old.tasks }
-        ensures turns { (sys : S) (given : ℕ) → Goes ⟦<S as Viewed>⟧.views H.allows H.refuses
-            self.old.tasks.all.now self.old.started.items self.new.started.items sys sys given
-            given }
+        ensures failed { self.new.failed ≡ self.old.failed }
+        ensures stopped { self.new.stopped ≡ self.old.stopped }
+        ensures sent { AllZip (λ before after. Advances ⟦<S as Viewed>⟧.views false true before
+            after 0) self.old.started.items self.new.started.items }
     {
         for at in 0..self.started.len() {
             terminate(&mut self.started[at]);
@@ -146,13 +152,14 @@ impl<'t, H: Hook, S: System> Crew<'t, S::End, H, Running<S>> {
     /// Sends signal 15 to the tasks that run, once, where one has failed and that is to stop them.
     pub fn stop_after_failure(&mut self)
         ensures tasks { self.new.tasks ≡ self.old.tasks }
+        ensures stops { IsHeeded self.new.tasks.at_failure self.new.failed self.new.stopped }
         ensures turns { (sys : S) (given : ℕ) → Goes ⟦<S as Viewed>⟧.views H.allows H.refuses
-            self.old.tasks.all.now self.old.started.items self.new.started.items sys sys given
-            given }
+            self.old.stopped self.new.stopped self.old.tasks.all.now self.old.started.items
+            self.new.started.items sys sys given given }
     {
         if self.failed && !self.stopped && matches!(self.tasks.at_failure, AtFailure::Stop) {
-            self.stopped = true;
             self.terminate();
+            self.stopped = true;
         }
     }
 

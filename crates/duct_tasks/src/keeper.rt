@@ -100,7 +100,8 @@ pub fn keep<H: Hook, S: System, C: Clock, F: Fn() -> bool, T: Fn(u32, Progress<'
     requires asked { F.IsAlwaysCallable stop }
     requires told { T.IsAlwaysCallable tell }
     ensures { Keeps ⟦<S as Viewed>⟧.views H.allows H.refuses service.now.expression.now
-        service.now.restarts.most (F.post stop) (sys.old, pool.old) result (sys.new, pool.new) }
+        service.now.restarts (F.post stop) (C.may_show service.now.clock.now) (sys.old, pool.old)
+        result (sys.new, pool.new) }
 {
     let mut kept = Kept {
         starts: 0,

@@ -4,6 +4,7 @@
 
 mod crew;
 mod expression;
+mod grace;
 mod keeper;
 mod late;
 mod many;

@@ -91,9 +91,9 @@ fn work<H: Hook, S: System, T: Fn(usize, Progress<'_>)>(
     requires { T.IsAlwaysCallable tell.now }
     ensures tasks { crew.new.tasks ≡ crew.old.tasks }
     ensures none { crew.new.running ≡ 0 }
-    ensures turns { Goes ⟦<S as Viewed>⟧.views H.allows H.refuses crew.old.tasks.all.now
-        crew.old.started.items crew.new.started.items sys.old sys.new pool.old.given
-        pool.new.given }
+    ensures turns { Goes ⟦<S as Viewed>⟧.views H.allows H.refuses crew.old.stopped crew.new.stopped
+        crew.old.tasks.all.now crew.old.started.items crew.new.started.items sys.old sys.new
+        pool.old.given pool.new.given }
     ensures over { (length crew.new.tasks.all.now ≤ length crew.new.started.items)
         ⊎ (GoesOn crew.new.tasks.at_failure crew.new.failed → ⊥) }
 {

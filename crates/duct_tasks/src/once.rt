@@ -1,15 +1,15 @@
 //! One run of an expression, which ends by itself or is stopped.
-ghost use Rattle.std.specs.Prelude.{ℕ, ◌≡◌, true, false, Err, IfSome};
+ghost use Rattle.std.specs.Prelude.{ℕ, ◌≡◌, true, false, Err, IfNone};
 ghost use Rattle.duct_base.specs.Pool.{counted};
 ghost use Rattle.duct_system.specs.declared.error.Error.{Error};
-ghost use Rattle.duct_running.specs.Answered.{ReturnsConclusion};
-ghost use Rattle.duct_handle.specs.Waited.{at_end};
-ghost use Rattle.duct_tasks.specs.Turns.{IsOver, Runs, StoppedIf, last_of, RunsAlike, gives};
+ghost use Rattle.duct_tasks.specs.Until.{HasPassed, RunsAlike};
+ghost use Rattle.duct_tasks.specs.Turns.{EndsWith, HasOrders, IsLast, IsOver, StoppedIf, gives, is_stopped, last_of};
 
+use crate::grace::{Asked, Lapsed};
 use crate::keeper::Service;
 use crate::many::Progress;
 use crate::task::{is_failure, spend};
-use crate::watch::{ask, kill, watch};
+use crate::watch::watch;
 use duct_base::error::Error;
 use duct_base::pause::Pause;
 use duct_base::pool::Pool;
@@ -50,42 +50,37 @@ pub(crate) fn pause<C: Clock, F: Fn() -> bool>(
     unreachable!()
 }
 
-// Waits until what runs has ended, or ends it where it is to stop before that: sends signal 15 to
-// its commands, and kills those that are not known to have ended after this grace.
-fn attend<S: System, C: Clock, F: Fn() -> bool>(
+// Sends signal 15 to the commands of what runs, and kills those that are not known to have ended
+// after this grace, if a poll has not said before how it ended.
+fn end<S: System, C: Clock>(
     rt: &impl Wait,
     clock: &C,
     grace: Duration,
-    stop: &F,
-    running: &mut Running<S>,
-) -> Run
-    requires { F.IsAlwaysCallable stop.now }
-    ensures alike { RunsAlike ⟦<S as Viewed>⟧.views running.old running.new }
-    ensures ended { IfSome (last_of result)
-        (λ end. ReturnsConclusion ⟦<S as Viewed>⟧.views running.new (at_end end)) }
-    ensures says { StoppedIf (F.post stop.now true) result }
+    running: Running<S>,
+) -> (Option<Result<Arc<Output>, Error>>, Lapsed<S>)
+    requires { HasOrders ⟦<S as Viewed>⟧.views false running }
+    ensures alike { RunsAlike ⟦<S as Viewed>⟧.views running result.1.running }
+    ensures last { IsLast ⟦<S as Viewed>⟧.views true result.0 result.1.running }
+    ensures patient { IfNone result.0 (HasPassed (C.may_show clock.now) grace) }
 {
-    if let Some(end) = watch(rt, stop, false, running) {
-        return Run::Ended(end);
-    }
     let last = clock.now().saturating_add(grace);
-    ask(running);
-    match watch(rt, &|| last <= clock.now(), false, running) {
-        Some(end) => Run::Stopped(Some(end)),
+    let (ended, mut lapsed) = Asked::new(running).wait(rt, clock, last, false);
+    match ended {
+        Some(end) => (Some(end), lapsed),
         None => {
-            let _ = kill(running);
-            Run::Stopped(None)
+            let _ = lapsed.kill();
+            (None, lapsed)
         }
     }
 }
 
 // Returns whether what ran like this failed or was killed.
-fn has_failed(run: &Run) -> bool
-    ensures { result ≡ gives (last_of run.now) }
+fn has_failed(last: &Option<Result<Arc<Output>, Error>>) -> bool
+    ensures { result ≡ gives last.now }
 {
-    match run {
-        Run::Ended(end) | Run::Stopped(Some(end)) => is_failure(end),
-        Run::Stopped(None) => true,
+    match last {
+        Some(end) => is_failure(end),
+        None => true,
     }
 }
 
@@ -101,21 +96,25 @@ pub(crate) fn run_once<H: Hook, S: System, C: Clock, F: Fn() -> bool, T: Fn(Prog
 ) -> Run
     requires asked { F.IsAlwaysCallable stop.now }
     requires told { T.IsAlwaysCallable tell.now }
-    ensures ran { (given : ℕ) × Runs ⟦<S as Viewed>⟧.views H.allows H.refuses
-        service.now.expression.now (last_of result) given sys.old sys.new
+    ensures ran { (given : ℕ) × EndsWith ⟦<S as Viewed>⟧.views H.allows H.refuses
+        (is_stopped result) service.now.expression.now (last_of result) given sys.old sys.new
         × (pool.new.given ≡ counted pool.old.given given) }
     ensures says { StoppedIf (F.post stop.now true) result }
+    ensures patient { IfNone (last_of result)
+        (HasPassed (C.may_show service.now.clock.now) service.now.restarts.grace) }
 {
-    match service.expression.launch(sys, pool) {
-        Ok(mut running) => {
-            tell(Progress::Started);
-            let (clock, grace) = (service.clock, service.restarts.grace);
-            let run = attend(rt, clock, grace, stop, &mut running);
-            spend(pool, running, has_failed(&run));
-            run
-        }
-        Err(error) => Run::Ended(Err(error)),
+    let mut running = match service.expression.launch(sys, pool) {
+        Ok(running) => running,
+        Err(error) => return Run::Ended(Err(error)),
+    };
+    tell(Progress::Started);
+    if let Some(end) = watch(rt, stop, false, &mut running) {
+        spend(pool, running, is_failure(&end));
+        return Run::Ended(end);
     }
+    let (last, lapsed) = end(rt, service.clock, service.restarts.grace, running);
+    spend(pool, lapsed.into_running(), has_failed(&last));
+    Run::Stopped(last)
 }
 
 /// Tells how a run ended, if it wasn't killed.

@@ -95,8 +95,8 @@ pub fn read_until<E: Drop, H: Hook, S: System<End = E>, C: Clock>(
     let captured = expression.stdout_capture()?;
     match launch_until(rt, sys, pool, &captured, deadline)? {
         Until::Done(output) => Ok(Until::Done(text_of(output.stdout)?)),
-        Until::Late((late, running)) => {
-            let (children, feeds, drains) = running.into_parts();
+        Until::Late((late, lapsed)) => {
+            let (children, feeds, drains) = lapsed.into_running().into_parts();
             drop(feeds);
             let last = deadline
                 .moment

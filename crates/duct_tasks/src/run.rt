@@ -10,6 +10,7 @@ ghost use Rattle.duct_handle.specs.Waited.{at_end};
 ghost use Rattle.duct.specs.Launched.{Fails, Launched, RunFailed, draining};
 ghost use Rattle.duct_tasks.specs.Until.{HasReached, HasShownLess, IfDone, IfLate, IsRunUntil, ReturnsInTime, Stops, UnlessEnded};
 
+use crate::grace::Lapsed;
 use crate::late::{Deadline, Late, Until};
 use crate::stop::stop;
 use crate::watch::{is_over, watch};
@@ -55,22 +56,22 @@ fn closed<S: System>(
 }
 
 /// Starts the expression and waits until it has ended, but not beyond its deadline, at which it is
-/// stopped. What was stopped is returned with what runs, whose children are then still to be given
-/// to a pool.
+/// stopped. What was stopped is returned with what had its grace, whose children are then still to
+/// be given to a pool.
 pub(crate) fn launch_until<E: Drop, H: Hook, S: System<End = E>, C: Clock>(
     rt: &impl Wait,
     sys: &mut S,
     pool: &mut Pool<S::Child>,
     expression: &Expression<E, H>,
     deadline: &Deadline<'_, C>,
-) -> Result<Until<Output, (Late, Running<S>)>, Error>
+) -> Result<Until<Output, (Late, Lapsed<S>)>, Error>
     ensures done { IfOk result (λ until. IfDone until (λ output. Launched ⟦<S as Viewed>⟧.views
         H.allows draining expression.now sys.old sys.new pool.old pool.new
         (ReturnsInTime ⟦<S as Viewed>⟧.views (C.may_show deadline.now.clock.now)
         (as_nanos deadline.now.moment) output))) }
     ensures stopped { IfOk result (λ until. IfLate until (λ stopped. Launched
         ⟦<S as Viewed>⟧.views H.allows draining expression.now sys.old sys.new pool.old pool.new
-        (Stops ⟦<S as Viewed>⟧.views stopped.0 stopped.1))) }
+        (Stops ⟦<S as Viewed>⟧.views stopped.0 stopped.1.running))) }
     ensures late { IfOk result (λ until. IfLate until (λ stopped.
         HasReached (C.may_show deadline.now.clock.now) (as_nanos deadline.now.moment))) }
     ensures grace { IfOk result (λ until. IfLate until (λ stopped. UnlessEnded stopped.0.ended
@@ -91,10 +92,7 @@ pub(crate) fn launch_until<E: Drop, H: Hook, S: System<End = E>, C: Clock>(
             Ok(output) => Ok(Until::Done(output)),
             Err(error) => Err(error),
         },
-        None => {
-            let late = stop(rt, clock, moment, deadline.grace, &mut running);
-            Ok(Until::Late((late, running)))
-        }
+        None => Ok(Until::Late(stop(rt, clock, moment, deadline.grace, running))),
     }
 }
 
@@ -132,8 +130,8 @@ pub fn run_until<E: Drop, H: Hook, S: System<End = E>, C: Clock>(
 {
     match launch_until(rt, sys, pool, expression, deadline)? {
         Until::Done(output) => Ok(Until::Done(output)),
-        Until::Late((late, running)) => {
-            running.give_up(pool);
+        Until::Late((late, lapsed)) => {
+            lapsed.into_running().give_up(pool);
             Ok(Until::Late(late))
         }
     }

@@ -1,5 +1,5 @@
 //! A task that was started: how it runs on, and how it ends.
-ghost use Rattle.std.specs.Prelude.{ℕ, ◌≡◌, ◌≤◌, if◌then◌else◌, true, [], length, sum_by, vec_capacity, Some};
+ghost use Rattle.std.specs.Prelude.{ℕ, Bool, ◌≡◌, ◌≤◌, if◌then◌else◌, true, false, [], length, sum_by, vec_capacity, Some};
 ghost use Rattle.duct_base.specs.Pool.{counted};
 ghost use Rattle.duct_running.specs.NumbersView.{numbers_of};
 ghost use Rattle.duct_tasks.specs.Turns.{Advances, AreEnds, Turn, failed_of, gives, running_of};
@@ -27,8 +27,8 @@ pub(crate) fn started<E: Drop, H: Hook, S: System<End = E>>(
     pool: &mut Pool<S::Child>,
     task: &Expression<E, H>,
 ) -> Task<Running<S>>
-    ensures { (given : ℕ) × Turn ⟦<S as Viewed>⟧.views H.allows H.refuses task.now result given
-        sys.old sys.new × (pool.new.given ≡ counted pool.old.given given) }
+    ensures { (given : ℕ) × Turn ⟦<S as Viewed>⟧.views H.allows H.refuses false task.now result
+        given sys.old sys.new × (pool.new.given ≡ counted pool.old.given given) }
 {
     match task.launch(sys, pool) {
         Ok(running) => Task::Running(running),
@@ -57,8 +57,8 @@ pub(crate) fn spend<S: System>(pool: &mut Pool<S::Child>, running: Running<S>, f
 
 /// Polls a task, if it runs. Returns whether it has ended by that.
 pub(crate) fn advance<S: System>(pool: &mut Pool<S::Child>, task: &mut Task<Running<S>>) -> bool
-    ensures goes { (given : ℕ) × Advances ⟦<S as Viewed>⟧.views task.old task.new given
-        × (pool.new.given ≡ counted pool.old.given given) }
+    ensures goes { (sent : Bool) → (given : ℕ) × Advances ⟦<S as Viewed>⟧.views sent sent task.old
+        task.new given × (pool.new.given ≡ counted pool.old.given given) }
     ensures runs { running_of task.new ≤ running_of task.old }
     ensures fails { failed_of task.old ≤ failed_of task.new }
 {
@@ -78,7 +78,7 @@ pub(crate) fn advance<S: System>(pool: &mut Pool<S::Child>, task: &mut Task<Runn
 
 /// Sends signal 15 to a task, if it runs. One that can't be sent it is waited for all the same.
 pub(crate) fn terminate<S: System>(task: &mut Task<Running<S>>)
-    ensures goes { Advances ⟦<S as Viewed>⟧.views task.old task.new 0 }
+    ensures goes { Advances ⟦<S as Viewed>⟧.views false true task.old task.new 0 }
     ensures runs { running_of task.new ≡ running_of task.old }
     ensures fails { failed_of task.new ≡ failed_of task.old }
 {

@@ -6,11 +6,11 @@ ghost use Rattle.duct_system.specs.declared.system.Order.TheVariants.{Kill};
 ghost use Rattle.duct_running.specs.Allowed.{OneRuns, StoresAllowed};
 ghost use Rattle.duct_running.specs.Answered.{ReturnsConclusion};
 ghost use Rattle.duct_running.specs.NumbersView.{numbers_of};
-ghost use Rattle.duct_running.specs.Ordered.{ChildrenOrdered, IsUnordered};
+ghost use Rattle.duct_running.specs.Ordered.{ChildrenOrdered};
 ghost use Rattle.duct_running.specs.Polled.{ReturnsOutcome, PolledOnce, StaysSame};
 ghost use Rattle.duct_handle.specs.Waited.{at_end};
-ghost use Rattle.duct_tasks.specs.Until.{AreSignalled, HasNotEnded, HasReached, HasShownLess};
-ghost use Rattle.duct_tasks.specs.Turns.{RunsAlike};
+ghost use Rattle.duct_tasks.specs.Until.{HasNotEnded, HasReached, HasShownLess, RunsAlike, StoresEnd, WasPolled};
+ghost use Rattle.duct_tasks.specs.Turns.{HasOrders};
 
 use crate::late::TERMINATE;
 use duct_base::error::Error;
@@ -33,8 +33,6 @@ pub(crate) fn is_over<C: Clock>(clock: &C, moment: Duration) -> bool
 fn polled<S: System>(running: &mut Running<S>) -> Result<Option<Arc<Output>>, Error>
     ensures polls { PolledOnce ⟦<S as Viewed>⟧.views running.old running.new }
     ensures stays { StaysSame ⟦<S as Viewed>⟧.views running.old running.new }
-    ensures signalled { AreSignalled ⟦<S as Viewed>⟧.views running.old
-        → AreSignalled ⟦<S as Viewed>⟧.views running.new }
     ensures outcome { ReturnsOutcome ⟦<S as Viewed>⟧.views running.new result }
     ensures allowed { ∥ StoresAllowed ⟦<S as Viewed>⟧.views running.new ∥₁ }
     ensures concluded { ReturnsConclusion ⟦<S as Viewed>⟧.views running.new result }
@@ -51,13 +49,7 @@ fn polled<S: System>(running: &mut Running<S>) -> Result<Option<Arc<Output>>, Er
 pub(crate) fn ended<S: System>(running: &mut Running<S>) -> Option<Result<Arc<Output>, Error>>
     ensures polls { PolledOnce ⟦<S as Viewed>⟧.views running.old running.new }
     ensures stays { StaysSame ⟦<S as Viewed>⟧.views running.old running.new }
-    ensures signalled { AreSignalled ⟦<S as Viewed>⟧.views running.old
-        → AreSignalled ⟦<S as Viewed>⟧.views running.new }
-    ensures outcome { IfSome result
-        (λ end. ReturnsOutcome ⟦<S as Viewed>⟧.views running.new (at_end end)) }
-    ensures allowed { ∥ StoresAllowed ⟦<S as Viewed>⟧.views running.new ∥₁ }
-    ensures concluded { IfSome result
-        (λ end. ReturnsConclusion ⟦<S as Viewed>⟧.views running.new (at_end end)) }
+    ensures stores { StoresEnd ⟦<S as Viewed>⟧.views result running.new }
     ensures runs { IfNone result (HasNotEnded ⟦<S as Viewed>⟧.views running.new) }
 {
     match polled(running) {
@@ -95,13 +87,8 @@ pub(crate) fn watch<S: System, F: Fn() -> bool>(
 ) -> Option<Result<Arc<Output>, Error>>
     requires { F.IsAlwaysCallable stop.now }
     ensures stays { StaysSame ⟦<S as Viewed>⟧.views running.old running.new }
-    ensures signalled { AreSignalled ⟦<S as Viewed>⟧.views running.old
-        → AreSignalled ⟦<S as Viewed>⟧.views running.new }
-    ensures outcome { IfSome result
-        (λ end. ReturnsOutcome ⟦<S as Viewed>⟧.views running.new (at_end end)) }
-    ensures allowed { ∥ StoresAllowed ⟦<S as Viewed>⟧.views running.new ∥₁ }
-    ensures concluded { IfSome result
-        (λ end. ReturnsConclusion ⟦<S as Viewed>⟧.views running.new (at_end end)) }
+    ensures polls { WasPolled ⟦<S as Viewed>⟧.views running.old running.new }
+    ensures stores { StoresEnd ⟦<S as Viewed>⟧.views result running.new }
     ensures in_time { F.post stop.now false
         ⊎ PolledOnce ⟦<S as Viewed>⟧.views running.old running.new }
     ensures says { IfNone result (F.post stop.now true) }
@@ -125,8 +112,8 @@ pub(crate) fn watch<S: System, F: Fn() -> bool>(
 /// on as before.
 pub(crate) fn ask<S: System>(running: &mut Running<S>)
     ensures alike { RunsAlike ⟦<S as Viewed>⟧.views running.old running.new }
-    ensures signalled { IsUnordered ⟦<S as Viewed>⟧.views running.old
-        → AreSignalled ⟦<S as Viewed>⟧.views running.new }
+    ensures sent { HasOrders ⟦<S as Viewed>⟧.views false running.old
+        → HasOrders ⟦<S as Viewed>⟧.views true running.new }
 {
     let _ = running.signal(TERMINATE);
 }

@@ -6,5 +6,6 @@ use Rattle.duct_tasks.proofs.expression.start_attempts.Given as goal
 
 abbrev pub invariant-loop : goal.invariant-loop
 invariant-loop g l =
-    SoFar (IsStart (views_of g.S.System g.S.End.Numbered g.S.Child.Child g.S.Feed.Job g.S.Drain.Job) g.H.Hook.allows g.H.Hook.refuses l.expression draining)
+    SoFar (IsStart (views_of g.S.System g.S.End.Numbered g.S.Child.Child g.S.Feed.Job g.S.Drain.Job)
+    g.H.Hook.allows g.H.Hook.refuses l.expression draining)
     (FnReturnsAt g.F.Fn l.is_transient) (l.fn.system, l.fn.pool) l.counter (l.system, l.pool)

@@ -9,15 +9,19 @@ loop-preserved g c =
     let sys = c.start_more.new.sys in
     let asked = c.start_more.ensures.tasks ∙ i.tasks in
     let still = c.stop_after_failure.ensures.tasks ∙ asked in
-    let started = goes_on (ap (λ (t : Tasks _ _). t.all.now) i.tasks) i.turns c.start_more.ensures.turns in
-    let stopped = goes_on (ap (λ (t : Tasks _ _). t.all.now) asked) started (c.stop_after_failure.ensures.turns sys c.start_more.new.pool.given) in
+    let started = goes_on (ap (λ (t : Tasks _ _). t.all.now) i.tasks) i.turns
+    c.start_more.ensures.turns in
+    let stopped = goes_on (ap (λ (t : Tasks _ _). t.all.now) asked) started
+    (c.stop_after_failure.ensures.turns sys c.start_more.new.pool.given) in
     record {
       can = tt;
       ends = tt;
       tasks = c.poll_all.ensures.tasks ∙ still;
-      turns = goes_on (ap (λ (t : Tasks _ _). t.all.now) still) stopped (c.poll_all.ensures.turns sys);
+      turns = goes_on (ap (λ (t : Tasks _ _). t.all.now) still) stopped
+          (c.poll_all.ensures.turns sys);
     }
 
 pub returns-then-not-is_busy-clause-turns : goal.returns-then-not-is_busy-clause-turns
 returns-then-not-is_busy-clause-turns g c =
-    goes_on (ap (λ (t : Tasks _ _). t.all.now) c.loop.invariant.tasks) c.loop.invariant.turns c.start_more.ensures.turns
+    goes_on (ap (λ (t : Tasks _ _). t.all.now) c.loop.invariant.tasks) c.loop.invariant.turns
+    c.start_more.ensures.turns

@@ -8,6 +8,9 @@ invariant-loop g l = record {
   can : (goal.iterator-loop g).can_next l.iterator';
   ends : (goal.iterator-loop g).is_finite l.iterator';
   tasks : l.crew.tasks ≡ l.initial.crew.tasks;
-  turns : Goes (views_of g.S.System g.S.End.Numbered g.S.Child.Child g.S.Feed.Job g.S.Drain.Job) g.H.Hook.allows g.H.Hook.refuses
-      l.initial.crew.tasks.all.now l.initial.crew.started.items l.crew.started.items l.initial.sys l.sys l.initial.pool.given l.pool.given;
+  turns : Goes (views_of g.S.System g.S.End.Numbered g.S.Child.Child g.S.Feed.Job g.S.Drain.Job)
+      g.H.Hook.allows g.H.Hook.refuses
+      l.initial.crew.stopped l.crew.stopped l.initial.crew.tasks.all.now
+      l.initial.crew.started.items l.crew.started.items l.initial.sys l.sys l.initial.pool.given
+      l.pool.given;
 }

@@ -1,18 +1,44 @@
+use Rattle.std.proofs.Common.{◌≡◌, ◌∙◌, ap, false, true, Bool, [], if◌then◌else◌, length, Some}
+use Rattle.std.proofs.lemmas.List.Elements.{All-map}
 use Rattle.duct_run.proofs.Seeing.{views_of}
-use Rattle.duct_tasks.specs.Turns.{last_of}
+use Rattle.duct.proofs.Finished.{ran_tree}
+use Rattle.duct_running.specs.NumbersView.{numbers_of}
 use Rattle.duct_tasks.proofs.Keeping.{ran_on}
-use Rattle.duct_tasks.proofs.Turning.{goes_to, launched, refused}
+use Rattle.duct_tasks.proofs.Staying.{alike}
+use Rattle.duct_tasks.proofs.Turning.{launched, refused}
 use Rattle.duct_tasks.proofs.once.run_once.Goals as goal
 
-pub returns-in-Ok-clause-ran : goal.returns-in-Ok-clause-ran
-returns-in-Ok-clause-ran g c =
+pub end-last-requires : goal.end-last-requires
+end-last-requires g c =
     let views = views_of g.S.System g.S.End.Numbered g.S.Child.Child g.S.Feed.Job g.S.Drain.Job in
-    let last = last_of c.attend-run.result in
-    let turn = launched views g.H.Hook.allows g.H.Hook.refuses c.args.service.now.expression.now c.args.sys.now c.launch.new.sys
+    All-map (λ d. d.orders ≡ []) views.child c.watch.new.running.children
+    (ran_tree views _ _ _ _ _ c.in-Ok.ensures.launched.makes c.watch.new.running c.watch.ensures.stays).unordered
+
+pub returns-in-Some-clause-ran : goal.returns-in-Some-clause-ran
+returns-in-Some-clause-ran g c =
+    let views = views_of g.S.System g.S.End.Numbered g.S.Child.Child g.S.Feed.Job g.S.Drain.Job in
+    let root = c.args.service.now.expression.now in
+    let ended = c.watch.new.running in
+    let turn = launched views g.H.Hook.allows g.H.Hook.refuses root c.args.sys.now c.launch.new.sys
     c.args.pool.now c.launch.new.pool c.in-Ok.running c.in-Ok.ensures.launched in
-    let goes = goes_to views c.in-Ok.running c.attend-run.new.running last c.attend-run.ensures.alike c.attend-run.ensures.ended
-    c.has_failed.result c.has_failed.ensures c.spend.ensures in
-    ran_on views g.H.Hook.allows g.H.Hook.refuses c.args.service.now.expression.now c.in-Ok.running last c.args.sys.now c.launch.new.sys turn goes
+    let unordered = All-map (λ d. d.orders ≡ []) views.child ended.children
+    (ran_tree views _ _ _ _ _ c.in-Ok.ensures.launched.makes ended c.watch.ensures.stays).unordered in
+    let count = λ (failed : Bool). if failed then length (numbers_of views ended).children else 0 in
+    ran_on views g.H.Hook.allows g.H.Hook.refuses root false c.in-Ok.running ended (Some c.in-Some.end) c.args.sys.now
+    c.launch.new.sys turn (alike views _ _ c.watch.ensures.stays)
+    (unordered, rw c.in-Some.is at c.watch.ensures.stores) (ap count c.is_failure.ensures) c.spend.ensures
+
+pub returns-clause-ran : goal.returns-clause-ran
+returns-clause-ran g c =
+    let views = views_of g.S.System g.S.End.Numbered g.S.Child.Child g.S.Feed.Job g.S.Drain.Job in
+    let root = c.args.service.now.expression.now in
+    let ended = c.end-last.result.1.running in
+    let turn = launched views g.H.Hook.allows g.H.Hook.refuses root c.args.sys.now c.launch.new.sys
+    c.args.pool.now c.launch.new.pool c.in-Ok.running c.in-Ok.ensures.launched in
+    let count = λ (failed : Bool). if failed then length (numbers_of views ended).children else 0 in
+    ran_on views g.H.Hook.allows g.H.Hook.refuses root true c.in-Ok.running ended c.end-last.result.0 c.args.sys.now
+    c.launch.new.sys turn (c.end-last.ensures.alike ∙ alike views _ _ c.watch.ensures.stays) c.end-last.ensures.last
+    (ap count c.has_failed.ensures) (rw c.into_running.ensures at c.spend-2.ensures)
 
 pub returns-in-Err-clause-ran : goal.returns-in-Err-clause-ran
 returns-in-Err-clause-ran g c =

@@ -1,13 +1,12 @@
-use Rattle.std.proofs.Common.{inl, inr, refl, subst, ℕ, ◌≡◌, map}
+use Rattle.std.proofs.Common.{◌++◌, inl, inr, refl, subst, ℕ, ◌≡◌, map, option_to_list}
 use Rattle.std.proofs.lemmas.Result.{err_from_is_err_and}
 use Rattle.std.specs.Duration.{as_nanos}
 use Rattle.duct_run.specs.Requested.{PoolGets}
 use Rattle.duct_run.proofs.Seeing.{views_of}
-use Rattle.duct_running.specs.NumbersView.{numbers_of}
 use Rattle.duct.specs.Launched.{added_between, draining}
 use Rattle.duct.specs.TreeView.{tree_view}
 use Rattle.duct_tasks.specs.Until.{ReadsFirst, last_read}
-use Rattle.duct_tasks.proofs.Ending.{first_drain, gives_stopped}
+use Rattle.duct_tasks.proofs.Ending.{first_drain, launch_stopped}
 use Rattle.duct_tasks.proofs.read.read_until.Goals as goal
 
 pub returns-in_err-captured : goal.returns-in_err-captured
@@ -17,46 +16,78 @@ returns-in_err-captured g c =
 
 pub returns-in_err-output : goal.returns-in_err-output
 returns-in_err-output g c =
-    let p = err_from_is_err_and c.from_residual-in_err-output.result c.from_residual-in_err-output.ensures.1 in
-    rw (p.1, p.2) (inr (inl (c.in_ok-captured.captured, c.in_ok-captured.ensures.tree, c.in_err-output.ensures.failed)))
+    let p = err_from_is_err_and c.from_residual-in_err-output.result
+    c.from_residual-in_err-output.ensures.1 in
+    rw (p.1, p.2) (inr (inl (
+      c.in_ok-captured.captured,
+      c.in_ok-captured.ensures.tree,
+      c.in_err-output.ensures.failed,
+    )))
 
 pub returns-in_err-text_of-in-Done : goal.returns-in_err-text_of-in-Done
 returns-in_err-text_of-in-Done g c =
-    let p = err_from_is_err_and c.from_residual-in_err-text_of-in-Done.result c.from_residual-in_err-text_of-in-Done.ensures.1 in
+    let p = err_from_is_err_and c.from_residual-in_err-text_of-in-Done.result
+    c.from_residual-in_err-text_of-in-Done.ensures.1 in
     let refused = c.in_err-text_of-in-Done.ensures.err in
     let launched = rw c.in-Done.is at c.in_ok-output.ensures.done in
-    rw (p.1, p.2) (inr (inr (refused.0, record { captured = _; is_captured = c.in_ok-captured.ensures.tree; output = c.in-Done.output; launched = launched; bytes = refused.1 })))
+    rw (p.1, p.2) (inr (inr (
+      refused.0,
+      record {
+        captured = _;
+        is_captured = c.in_ok-captured.ensures.tree;
+        output =
+            c.in-Done.output;
+        launched = launched;
+        bytes = refused.1;
+      },
+    )))
 
 pub returns-in-Done : goal.returns-in-Done
 returns-in-Done g c =
     let launched = rw c.in-Done.is at c.in_ok-output.ensures.done in
-    record { captured = _; is_captured = c.in_ok-captured.ensures.tree; output = c.in-Done.output; launched = launched; bytes = c.in_ok-text_of-in-Done.ensures.ok }
+    record {
+      captured = _;
+      is_captured = c.in_ok-captured.ensures.tree;
+      output = c.in-Done.output;
+      launched = launched;
+      bytes = c.in_ok-text_of-in-Done.ensures.ok;
+    }
 
 pub returns : goal.returns
 returns g c =
     let views = views_of g.S.System g.E.Numbered g.S.Child.Child g.S.Feed.Job g.S.Drain.Job in
+    let shows = g.C.Clock.may_show c.args.deadline.now.clock.now in
     let captured = c.in_ok-captured.captured in
+    let lapsed = c.in-Late.lapsed.running in
     let l = rw c.in-Late.is at c.in_ok-output.ensures.stopped in
-    let tree = tree_view captured in
-    let added = added_between views c.args.sys.now c.launch_until.new.sys in
-    let nanos : ℕ = last_read (as_nanos c.args.deadline.now.moment) (as_nanos c.args.deadline.now.grace) in
+    let nanos : ℕ = last_read (as_nanos c.args.deadline.now.moment)
+    (as_nanos c.args.deadline.now.grace) in
     let at_last : as_nanos c.saturating_add-last.result ≡ nanos =
     rw (c.saturating_add-last.ensures, c.saturating_add.ensures, c.from_secs.ensures) refl in
-    let gets : PoolGets views c.in-Late.running.children c.launch_until.new.pool c.give_all.new.pool =
-    subst (λ children. PoolGets views children c.launch_until.new.pool c.give_all.new.pool) c.into_parts-children.ensures.children c.give_all.ensures in (
-      record { late = rw c.in-Late.is at c.in_ok-output.ensures.late; patient = rw c.in-Late.is at c.in_ok-output.ensures.grace },
+    let children : c.into_parts-children.result.0.items ≡ lapsed.children = rw
+    (← c.into_running.ensures) c.into_parts-children.ensures.children in
+    let drains : c.into_parts-children.result.2.items ≡ option_to_list lapsed.output ++
+    option_to_list lapsed.error =
+    rw (← c.into_running.ensures) c.into_parts-children.ensures.drains in
+    let gets : PoolGets views lapsed.children c.launch_until.new.pool c.give_all.new.pool =
+    subst (λ children. PoolGets views children c.launch_until.new.pool c.give_all.new.pool) children
+    c.give_all.ensures in (
+      record {
+        late = rw c.in-Late.is at c.in_ok-output.ensures.late;
+        patient = rw c.in-Late.is at
+            c.in_ok-output.ensures.grace;
+      },
       record {
         captured = captured;
         is_captured = c.in_ok-captured.ensures.tree;
-        stopped = record {
-          asked = l.asked;
-          is_late = (numbers_of views c.in-Late.running, l.makes.0);
-          given = gives_stopped views draining tree added c.in-Late.late c.in-Late.running l.makes.0 l.makes.1
-              c.args.pool.now c.launch_until.new.pool c.give_all.new.pool l.swept gets;
-        };
-        read = first_drain views draining tree added c.in-Late.late c.in-Late.running l.makes.0 _ c.into_parts-children.ensures.drains
-            (g.C.Clock.may_show c.args.deadline.now.clock.now) nanos c.first_bytes_until-read.result
-            (subst (λ (n : ℕ). ReadsFirst views.drain_says (g.C.Clock.may_show c.args.deadline.now.clock.now) n
-            (map (λ d. (views.drain d).number) c.into_parts-children.result.2.items) c.first_bytes_until-read.result) at_last c.first_bytes_until-read.ensures);
+        stopped = launch_stopped views g.H.Hook.allows captured c.args.sys.now
+            c.launch_until.new.sys c.args.pool.now
+            c.launch_until.new.pool c.give_all.new.pool c.in-Late.late lapsed l gets;
+        read = first_drain views draining (tree_view captured)
+            (added_between views c.args.sys.now c.launch_until.new.sys)
+            c.in-Late.late lapsed l.makes _ drains shows nanos c.first_bytes_until-read.result
+            (subst (λ (n : ℕ). ReadsFirst views.drain_says shows n
+            (map (λ d. (views.drain d).number) c.into_parts-children.result.2.items)
+            c.first_bytes_until-read.result) at_last c.first_bytes_until-read.ensures);
       },
     )

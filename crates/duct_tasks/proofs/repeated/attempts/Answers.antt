@@ -8,22 +8,58 @@ loop-init g c = first
 pub loop-preserved : goal.loop-preserved
 loop-preserved g c =
     failed c.loop.invariant _ (omega arith) c.in-Err.error (
-      record { first = _; second = _; shows = (refl, refl); left = _; met = c.in-Err.ensures; leaves = (refl, refl) },
+      record {
+        first = _;
+        second = _;
+        shows = (refl, refl);
+        left = _;
+        met = c.in-Err.ensures;
+        leaves
+            = (refl, refl);
+      },
       record { shown = _; shows = refl; says = record { met = c.if-not-is_transient.ensures } },
     )
 
 pub returns-in-Ok : goal.returns-in-Ok
 returns-in-Ok g c =
     ends c.loop.invariant c.args.most (omega (arith, c.loop-test.true))
-    (record { first = _; second = _; shows = (refl, refl); left = _; met = c.in-Ok.ensures; leaves = (refl, refl) }) tt
+    (record {
+      first = _;
+      second = _;
+      shows = (refl, refl);
+      left = _;
+      met = c.in-Ok.ensures;
+      leaves =
+          (refl, refl);
+    }) tt
 
 pub returns-then-not-is_transient : goal.returns-then-not-is_transient
 returns-then-not-is_transient g c =
     ends c.loop.invariant c.args.most (omega (arith, c.loop-test.true))
-    (record { first = _; second = _; shows = (refl, refl); left = _; met = c.in-Err.ensures; leaves = (refl, refl) })
-    (inl (record { shown = _; shows = refl; says = record { met = c.if-not-is_transient.ensures } }))
+    (record {
+      first = _;
+      second = _;
+      shows = (refl, refl);
+      left = _;
+      met = c.in-Err.ensures;
+      leaves
+          = (refl, refl);
+    })
+    (inl (record {
+      shown = _;
+      shows = refl;
+      says = record { met = c.if-not-is_transient.ensures };
+    }))
 
 pub returns : goal.returns
 returns g c =
-    gives_up c.loop.invariant c.args.most (omega (arith, c.loop-test.false, c.loop.auto)) c.attempt-2.result
-    (record { first = _; second = _; shows = (refl, refl); left = _; met = c.attempt-2.ensures; leaves = (refl, refl) })
+    gives_up c.loop.invariant c.args.most (omega (arith, c.loop-test.false, c.loop.auto))
+    c.attempt-2.result
+    (record {
+      first = _;
+      second = _;
+      shows = (refl, refl);
+      left = _;
+      met = c.attempt-2.ensures;
+      leaves = (refl, refl);
+    })

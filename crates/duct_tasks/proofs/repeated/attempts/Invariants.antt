@@ -4,4 +4,5 @@ use Rattle.duct_tasks.proofs.EachAttempt.{SoFar}
 use Rattle.duct_tasks.proofs.repeated.attempts.Given as goal
 
 abbrev pub invariant-loop : goal.invariant-loop
-invariant-loop g l = SoFar (FnReturnsAtPairMut g.A.Fn l.attempt) (FnReturnsAt g.F.Fn l.is_transient) (l.fn.system, l.fn.pool) l.counter (l.system, l.pool)
+invariant-loop g l = SoFar (FnReturnsAtPairMut g.A.Fn l.attempt) (FnReturnsAt g.F.Fn l.is_transient)
+    (l.fn.system, l.fn.pool) l.counter (l.system, l.pool)

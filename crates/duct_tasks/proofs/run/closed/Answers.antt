@@ -6,5 +6,8 @@ pub returns-in-Err-clause-failed : goal.returns-in-Err-clause-failed
 returns-in-Err-clause-failed g c = (
   c.args.running,
   stays_same c.args.running,
-  (record { outcome = inl (rw c.in-Err.is at c.requires.ended); allowed = c.requires.allowed }, c.give_up.ensures),
+  (
+    record { outcome = inl (rw c.in-Err.is at c.requires.ended); allowed = c.requires.allowed },
+    c.give_up.ensures,
+  ),
 )

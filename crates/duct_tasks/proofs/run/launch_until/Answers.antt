@@ -1,4 +1,5 @@
-use Rattle.std.proofs.Common.{inl, inr, refl}
+use Rattle.std.proofs.Common.{◌≡◌, inl, inr, refl, []}
+use Rattle.std.proofs.lemmas.List.Elements.{All-map}
 use Rattle.std.proofs.lemmas.Result.{err_from_is_err_and}
 use Rattle.duct_run.proofs.Seeing.{views_of}
 use Rattle.duct_handle.specs.Finished.{StoresError}
@@ -18,12 +19,18 @@ returns-in_err-running-clause-failed g c =
 pub closed-requires-clause-unordered : goal.closed-requires-clause-unordered
 closed-requires-clause-unordered g c =
     let views = views_of g.S.System g.E.Numbered g.S.Child.Child g.S.Feed.Job g.S.Drain.Job in
-    (ran_tree views _ _ _ _ _ c.in_ok-running.ensures.launched.makes c.watch.new.running c.watch.ensures.stays).unordered
+    (ran_tree views _ _ _ _ _ c.in_ok-running.ensures.launched.makes c.watch.new.running
+    c.watch.ensures.stays).unordered
 
-pub stop-late-requires-clause-unordered : goal.stop-late-requires-clause-unordered
-stop-late-requires-clause-unordered g c =
+pub closed-requires-clause-ended : goal.closed-requires-clause-ended
+closed-requires-clause-ended g c = rw c.in-Some.is at c.watch.ensures.stores.outcome
+
+pub stop-requires-clause-unordered : goal.stop-requires-clause-unordered
+stop-requires-clause-unordered g c =
     let views = views_of g.S.System g.E.Numbered g.S.Child.Child g.S.Feed.Job g.S.Drain.Job in
-    (ran_tree views _ _ _ _ _ c.in_ok-running.ensures.launched.makes c.watch.new.running c.watch.ensures.stays).unordered
+    All-map (λ d. d.orders ≡ []) views.child c.watch.new.running.children
+    (ran_tree views _ _ _ _ _ c.in_ok-running.ensures.launched.makes c.watch.new.running
+    c.watch.ensures.stays).unordered
 
 pub returns-in-Ok-clause-done : goal.returns-in-Ok-clause-done
 returns-in-Ok-clause-done g c =
@@ -37,7 +44,14 @@ returns-in-Ok-clause-done g c =
         (ran.0, ran_tree views _ _ _ _ _ l.makes ran.0 stays, ran.2),
         elim c.watch.ensures.in_time [
           | inl less ↦ inl (less.1 refl)
-          | inr once ↦ inr (c.in_ok-running.running, l.makes, c.watch.new.running, once, c.in-Some.ended, c.in-Some.ensures.outcome)
+          | inr once ↦ inr (
+            c.in_ok-running.running,
+            l.makes,
+            c.watch.new.running,
+            once,
+            c.in-Some.ended,
+            rw c.in-Some.is at c.watch.ensures.stores.outcome,
+          )
         ],
       );
       swept = rw c.in-Ok.ensures.kept l.swept;
@@ -49,9 +63,12 @@ returns-in-Err-clause-failed g c =
     let l = c.in_ok-running.ensures.launched in
     let e = c.in-Err.error in
     let ran = c.in-Err.ensures.failed in
-    inr (wait_failed views g.H.Hook.allows draining c.args.expression.now c.args.sys.now c.launch.new.sys
-    c.args.pool.now c.launch.new.pool c.closed.new.pool l.asked c.in_ok-running.running l.makes l.swept
-    (λ waited. StoresError views waited e) (Fails views e) (λ waited stores. stores) (ran.0, stays_on c.watch.ensures.stays ran.1, ran.2))
+    inr (wait_failed views g.H.Hook.allows draining c.args.expression.now c.args.sys.now
+    c.launch.new.sys
+    c.args.pool.now c.launch.new.pool c.closed.new.pool l.asked c.in_ok-running.running l.makes
+    l.swept
+    (λ waited. StoresError views waited e) (Fails views e) (λ waited stores. stores)
+    (ran.0, stays_on c.watch.ensures.stays ran.1, ran.2))
 
 pub returns-in-None-clause-stopped : goal.returns-in-None-clause-stopped
 returns-in-None-clause-stopped g c =
@@ -60,11 +77,9 @@ returns-in-None-clause-stopped g c =
     let added = added_between views c.args.sys.now c.launch.new.sys in
     record {
       asked = l.asked;
-      makes = (
-        is_late views draining (tree_view c.args.expression.now) added c.stop-late.result c.stop-late.new.running
-            c.in_ok-running.running c.watch.new.running l.makes (alike views _ _ c.watch.ensures.stays) c.in-None.ensures.runs
-            c.stop-late.ensures.alike c.stop-late.ensures.ended,
-        c.stop-late.ensures.stopped,
-      );
+      makes = is_late views draining (tree_view c.args.expression.now) added c.stop.result.0
+          c.in_ok-running.running c.watch.new.running
+          c.stop.result.1.running l.makes (alike views _ _ c.watch.ensures.stays)
+          (rw c.in-None.is at c.watch.ensures.runs) c.stop.ensures.stopped;
       swept = l.swept;
     }

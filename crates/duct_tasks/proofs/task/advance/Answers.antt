@@ -1,11 +1,11 @@
-use Rattle.std.proofs.Common.{◌≡◌, subst, Some}
+use Rattle.std.proofs.Common.{◌≡◌, ap, refl, subst, Bool, length, if◌then◌else◌, Some}
 use Rattle.duct_start.specs.Running.{RunningView}
 use Rattle.duct_run.proofs.Seeing.{views_of}
-use Rattle.duct_running.specs.Answered.{ReturnsConclusion}
-use Rattle.duct_handle.specs.Waited.{at_end}
-use Rattle.duct_tasks.specs.Turns.{RunsAlike}
+use Rattle.duct_running.specs.NumbersView.{numbers_of}
+use Rattle.duct_tasks.specs.Turns.{IsLast}
+use Rattle.duct_tasks.specs.Until.{RunsAlike}
+use Rattle.duct_tasks.proofs.Signalled.{had_orders, orders_left}
 use Rattle.duct_tasks.proofs.Staying.{alike}
-use Rattle.duct_tasks.proofs.Turning.{goes_to}
 use Rattle.duct_tasks.proofs.task.advance.Goals as goal
 
 pub returns-clause-goes : goal.returns-clause-goes
@@ -13,8 +13,34 @@ returns-clause-goes g c =
     let views = views_of g.S.System g.S.End.Numbered g.S.Child.Child g.S.Feed.Job g.S.Drain.Job in
     let before = c.in-Running.running in
     let after = c.in-Running-replace.running in
+    let count = λ (failed : Bool). if failed then length (numbers_of views after).children else 0 in
     let same : c.ended.new.running ≡ after = cc in
-    let stays = subst (λ (r : RunningView _ _ _). RunsAlike views before r) same (alike views _ _ c.ended.ensures.stays) in
-    let concluded = subst (λ (r : RunningView _ _ _). ReturnsConclusion views r (at_end c.in-Some.end)) same c.in-Some.ensures.concluded in
-    rw (c.in-Running.is, c.replace.ensures.after) (goes_to views before after (Some c.in-Some.end) stays concluded
-    c.is_failure-failed.result c.is_failure-failed.ensures c.spend.ensures)
+    λ sent. rw (c.in-Running.is, c.replace.ensures.after) (
+      count c.is_failure-failed.result,
+      (
+        after,
+        subst (λ (r : RunningView _ _ _). RunsAlike views before r) same
+            (alike views _ _ c.ended.ensures.stays),
+        λ orders. subst (λ (r : RunningView _ _ _). IsLast views sent (Some c.in-Some.end) r) same (
+          had_orders views sent _ (orders_left views sent _ _ c.ended.ensures.polls orders),
+          rw
+              c.in-Some.is at c.ended.ensures.stores,
+        ),
+        ap count c.is_failure-failed.ensures,
+      ),
+      c.spend.ensures,
+    )
+
+pub returns-in_default-ended-clause-goes : goal.returns-in_default-ended-clause-goes
+returns-in_default-ended-clause-goes g c =
+    let views = views_of g.S.System g.S.End.Numbered g.S.Child.Child g.S.Feed.Job g.S.Drain.Job in
+    λ sent. rw c.in-Running.is (
+      0,
+      (
+        alike views _ _ c.ended.ensures.stays,
+        orders_left views sent _ _
+            c.ended.ensures.polls,
+        refl,
+      ),
+      refl,
+    )

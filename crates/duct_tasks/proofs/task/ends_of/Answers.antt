@@ -1,7 +1,8 @@
 use Rattle.std.proofs.Common.{◌≡◌, List, [], ◌∷◌, ap, arith, length, length-append, map, sum_by}
 use Rattle.std.specs.Vec.Iter.{into_iter_items}
 use Rattle.std.proofs.lemmas.List.Sums.{sum_by-cons}
-use Rattle.duct_tasks.specs.Turns.{End, running_of}
+use Rattle.duct_tasks.specs.Turns.{running_of}
+use Rattle.duct_tasks.specs.Until.{End}
 use Rattle.duct_tasks.specs.declared.task.Task.{Task}
 use Rattle.duct_tasks.specs.declared.task.Task.TheVariants.{Ended}
 use Rattle.duct_tasks.proofs.Ends.{all_made, one_more}
@@ -15,7 +16,8 @@ loop-preserved g c =
     rw c.in-Some-Ended.field-0-is at c.in-Some-Ended.ensures.items in
     let fewer = ap (λ (tasks : List (Task g.row.R.Denot)). length tasks) items in
     record {
-      ends = rw c.push_reserved.ensures.items (one_more c.args.tasks.items (into_iter_items c.loop.tasks) rest c.loop.room.items c.in-Some-Ended.end items i.ends);
+      ends = rw c.push_reserved.ensures.items (one_more c.args.tasks.items
+          (into_iter_items c.loop.tasks) rest c.loop.room.items c.in-Some-Ended.end items i.ends);
       none = omega (
         arith,
         i.none,
@@ -24,10 +26,20 @@ loop-preserved g c =
       );
       left = omega (arith, i.left, c.in-Some-Ended.ensures.len);
       many = omega (arith, i.many, c.in-Some-Ended.ensures.len, fewer);
-      room = omega (arith, i.room, fewer, c.push_reserved.ensures.capacity, ap (λ (ends : List End). length ends) c.push_reserved.ensures.items, length-append c.loop.room.items (c.in-Some-Ended.end ∷ []));
+      room = omega (
+        arith,
+        i.room,
+        fewer,
+        c.push_reserved.ensures.capacity,
+        ap
+            (λ (ends : List End). length ends) c.push_reserved.ensures.items,
+        length-append
+            c.loop.room.items (c.in-Some-Ended.end ∷ []),
+      );
     }
 
 pub returns : goal.returns
 returns g c =
     let i = c.loop.invariant in
-    all_made c.args.tasks.items (map (λ e. Ended e) c.loop.room.items) (into_iter_items c.loop.tasks) (omega (arith, i.left, i.many, c.loop-test.false)) i.ends
+    all_made c.args.tasks.items (map (λ e. Ended e) c.loop.room.items)
+    (into_iter_items c.loop.tasks) (omega (arith, i.left, i.many, c.loop-test.false)) i.ends

@@ -1,4 +1,4 @@
-use Rattle.std.proofs.Common.{refl}
+use Rattle.std.proofs.Common.{false, true, refl}
 use Rattle.duct_run.proofs.Seeing.{views_of}
 use Rattle.duct_tasks.specs.Turns.{Advances}
 use Rattle.duct_tasks.specs.declared.task.Task.TheVariants.{Running}
@@ -6,6 +6,7 @@ use Rattle.duct_tasks.proofs.task.terminate.Goals as goal
 
 pub returns-in-Running-clause-goes : goal.returns-in-Running-clause-goes
 returns-in-Running-clause-goes g c =
-    let goes : Advances (views_of g.S.System g.S.End.Numbered g.S.Child.Child g.S.Feed.Job g.S.Drain.Job) (Running c.in-Running.running) (Running c.ask.new.running) 0 =
-    (c.ask.ensures.alike, refl) in
+    let goes : Advances (views_of g.S.System g.S.End.Numbered g.S.Child.Child g.S.Feed.Job
+    g.S.Drain.Job) false true (Running c.in-Running.running) (Running c.ask.new.running) 0 =
+    (c.ask.ensures.alike, c.ask.ensures.sent, refl) in
     rw c.in-Running.is goes

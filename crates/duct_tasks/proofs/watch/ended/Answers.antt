@@ -9,7 +9,8 @@ use Rattle.duct_tasks.proofs.watch.ended.Goals as goal
 
 pub returns-in-Ok-None-clause-runs : goal.returns-in-Ok-None-clause-runs
 returns-in-Ok-None-clause-runs g c =
-    inl (c.polled.ensures.runs (c.in-Ok-None.is ∙ ap (λ (f : Option (Arc Output Global)). Ok f) c.in-Ok-None.field-0-is))
+    inl (c.polled.ensures.runs (c.in-Ok-None.is ∙ ap (λ (f : Option (Arc Output Global)). Ok f)
+    c.in-Ok-None.field-0-is))
 
 pub returns-in-Err-System-clause-runs : goal.returns-in-Err-System-clause-runs
 returns-in-Err-System-clause-runs g c =
@@ -17,5 +18,6 @@ returns-in-Err-System-clause-runs g c =
     inr (
       c.in-Err-System.field-0-0,
       subst (λ (p : Polled). ReturnsConclusion views c.polled.new.running p)
-          (c.in-Err-System.is ∙ ap (λ (e : Error). Err e) c.in-Err-System.field-0-is) c.polled.ensures.concluded,
+          (c.in-Err-System.is ∙ ap (λ (e : Error). Err e) c.in-Err-System.field-0-is)
+          c.polled.ensures.concluded,
     )

@@ -9,5 +9,6 @@ loop-at-preserved g c =
     record {
       tasks = c.poll.ensures.tasks ∙ i.tasks;
       count = c.poll.ensures.count ∙ i.count;
-      turns = λ sys. goes_on (ap (λ (t : Tasks _ _). t.all.now) i.tasks) (i.turns sys) (c.poll.ensures.turns sys);
+      turns = λ sys. goes_on (ap (λ (t : Tasks _ _). t.all.now) i.tasks) (i.turns sys)
+          (c.poll.ensures.turns sys);
     }

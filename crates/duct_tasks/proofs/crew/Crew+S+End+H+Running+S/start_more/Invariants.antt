@@ -8,6 +8,9 @@ invariant-loop-at g l = record {
   tasks : l.self.tasks ≡ l.initial.self.tasks;
   count : length l.self.started.items ≡ l.at;
   all : length l.initial.self.tasks.all.now ≡ l.at-end;
-  turns : Goes (views_of g.S.System g.S.End.Numbered g.S.Child.Child g.S.Feed.Job g.S.Drain.Job) g.H.Hook.allows g.H.Hook.refuses
-      l.initial.self.tasks.all.now l.initial.self.started.items l.self.started.items l.initial.sys l.sys l.initial.pool.given l.pool.given;
+  turns : Goes (views_of g.S.System g.S.End.Numbered g.S.Child.Child g.S.Feed.Job g.S.Drain.Job)
+      g.H.Hook.allows g.H.Hook.refuses
+      l.initial.self.stopped l.self.stopped l.initial.self.tasks.all.now
+      l.initial.self.started.items l.self.started.items l.initial.sys l.sys l.initial.pool.given
+      l.pool.given;
 }
