@@ -54,7 +54,8 @@ by_result P (Err e) ok err = err
 
 module _ {P T E : Type 0} (attempt : P → Result T E → P → Type 0) (tells : E → Bool → Type 0)
     (before : P) where
-  -- all attempts before the next, which is this one by its number, failed with an error that was called transient
+  -- all attempts before the next, which is this one by its number, failed with an error that was
+  -- called transient
   pub record SoFar (next : ℕ) (between : P) : Type 0 where
     pub errors : List E
     pub count : length errors + 1 ≡ next

@@ -109,7 +109,8 @@ module _ {S E C F D : Type 0} (views : SystemViews S E C F D (Unit {0}) Bytes) {
         asked = before.asked;
         why = is;
         orders = λ no. absurd (cc);
-        patient = λ some. ended_before (HasPassed shows restarts.grace) starts last some before.idle;
+        patient = λ some. ended_before (HasPassed shows restarts.grace) starts last some
+            before.idle;
       }
 
       module _ (one : Run) (left : S) (kept : PoolView C) (no : says false)

@@ -1,6 +1,7 @@
 //! A task that was started: how it runs on, and how it ends.
 ghost use Rattle.std.specs.Prelude.{ℕ, Bool, ◌≡◌, ◌≤◌, if◌then◌else◌, true, false, [], length, sum_by, vec_capacity, Some};
 ghost use Rattle.duct_base.specs.Pool.{counted};
+ghost use Rattle.duct_run.specs.Requested.{PoolGets};
 ghost use Rattle.duct_running.specs.NumbersView.{numbers_of};
 ghost use Rattle.duct_tasks.specs.Turns.{Advances, AreEnds, Turn, failed_of, gives, running_of};
 
@@ -43,9 +44,12 @@ pub(crate) fn is_failure(end: &Result<Arc<Output>, Error>) -> bool
     matches!(end, Err(_))
 }
 
-/// Spends what has ended or was killed. Where it has failed, its children are given to the pool.
+/// Spends what has ended or was killed. Where it has failed, its children are given to the pool as
+/// they are.
 pub(crate) fn spend<S: System>(pool: &mut Pool<S::Child>, running: Running<S>, failed: bool)
-    ensures { pool.new.given ≡ counted pool.old.given
+    ensures gets { failed ≡ true
+        → PoolGets ⟦<S as Viewed>⟧.views running.children pool.old pool.new }
+    ensures count { pool.new.given ≡ counted pool.old.given
         (if failed then length (numbers_of ⟦<S as Viewed>⟧.views running).children else 0) }
 {
     if failed {

@@ -9,7 +9,8 @@ use Rattle.duct_tasks.proofs.keeper.keep.Goals as goal
 pub loop-place-init : goal.loop-place-init
 loop-place-init g c = record {
   so_far = nothing (views_of g.S.System g.S.End.Numbered g.S.Child.Child g.S.Feed.Job g.S.Drain.Job)
-      g.H.Hook.allows g.H.Hook.refuses c.args.service.now.expression.now (g.F.Fn.post c.args.stop tt)
+      g.H.Hook.allows g.H.Hook.refuses c.args.service.now.expression.now
+      (g.F.Fn.post c.args.stop tt)
       c.args.sys.now c.args.pool.now;
   starts = refl;
   why = refl;
@@ -37,12 +38,16 @@ loop-place-preserved g c =
     let kept = c.after-kept in
     let on = c.may_start.ensures.yes c.if-not-may_start.false in
     record {
-      so_far = goes_on (views_of g.S.System g.S.End.Numbered g.S.Child.Child g.S.Feed.Job g.S.Drain.Job)
-          g.H.Hook.allows g.H.Hook.refuses service.expression.now says c.args.sys.now c.args.pool.now
+      so_far = goes_on (views_of g.S.System g.S.End.Numbered g.S.Child.Child g.S.Feed.Job
+          g.S.Drain.Job)
+          g.H.Hook.allows g.H.Hook.refuses service.expression.now says c.args.sys.now
+          c.args.pool.now
           l.kept.starts l.kept.last l.sys l.pool l.invariant.so_far service.restarts
           (g.C.Clock.may_show service.clock.now) run.result run.new.sys run.new.pool
-          (subst (λ (b : Bool). says b) c.if-pause.false c.pause.ensures) run.ensures.ran kept.result
-          (omega (arith, l.invariant.starts, kept.ensures.starts)) kept.ensures.last kept.ensures.why on;
+          (subst (λ (b : Bool). says b) c.if-pause.false c.pause.ensures) run.ensures.ran
+          kept.result
+          (omega (arith, l.invariant.starts, kept.ensures.starts)) kept.ensures.last
+          kept.ensures.why on;
       starts = kept.ensures.starts;
       why = on;
       most = l.invariant.most;
@@ -74,8 +79,21 @@ returns g c =
     g.H.Hook.allows g.H.Hook.refuses service.expression.now says c.args.sys.now c.args.pool.now
     l.kept.starts l.kept.last l.sys l.pool l.invariant.so_far service.restarts
     (g.C.Clock.may_show service.clock.now) l.kept.why
-    (omega (arith, l.invariant.starts, l.invariant.most, c.loop-place-test.false, l.auto.place-counter-end))
-    (subst (λ (w : Why). IsWhy service.restarts.most says w l.kept.starts l.kept.last) (sym l.invariant.why) (
-      omega (arith, l.invariant.starts, l.invariant.most, c.loop-place-test.false, l.auto.place-counter-end),
+    (omega (
+      arith,
+      l.invariant.starts,
+      l.invariant.most,
+      c.loop-place-test.false,
+      l.auto.place-counter-end,
+    ))
+    (subst (λ (w : Why). IsWhy service.restarts.most says w l.kept.starts l.kept.last)
+    (sym l.invariant.why) (
+      omega (
+        arith,
+        l.invariant.starts,
+        l.invariant.most,
+        c.loop-place-test.false,
+        l.auto.place-counter-end,
+      ),
       l.invariant.so_far.idle,
     ))

@@ -9,7 +9,8 @@ returns-in-Some-clause-alike g c = c.wait-ended.ensures.alike ∙ c.new.ensures.
 pub returns-in-Some-clause-last : goal.returns-in-Some-clause-last
 returns-in-Some-clause-last g c =
     let lapsed = c.wait-ended.ensures.lapsed in
-    let kept = orders_left (views_of g.S.System g.S.End.Numbered g.S.Child.Child g.S.Feed.Job g.S.Drain.Job) true lapsed.0 c.wait-ended.result.1.running lapsed.2 lapsed.1 in
+    let kept = orders_left (views_of g.S.System g.S.End.Numbered g.S.Child.Child g.S.Feed.Job
+    g.S.Drain.Job) true lapsed.0 c.wait-ended.result.1.running lapsed.2 lapsed.1 in
     (inr kept, rw c.in-Some.is at lapsed.3)
 
 pub returns-in-None-clause-alike : goal.returns-in-None-clause-alike

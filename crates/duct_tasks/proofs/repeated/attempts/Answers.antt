@@ -14,8 +14,7 @@ loop-preserved g c =
         shows = (refl, refl);
         left = _;
         met = c.in-Err.ensures;
-        leaves
-            = (refl, refl);
+        leaves = (refl, refl);
       },
       record { shown = _; shows = refl; says = record { met = c.if-not-is_transient.ensures } },
     )
@@ -29,8 +28,7 @@ returns-in-Ok g c =
       shows = (refl, refl);
       left = _;
       met = c.in-Ok.ensures;
-      leaves =
-          (refl, refl);
+      leaves = (refl, refl);
     }) tt
 
 pub returns-then-not-is_transient : goal.returns-then-not-is_transient
@@ -42,8 +40,7 @@ returns-then-not-is_transient g c =
       shows = (refl, refl);
       left = _;
       met = c.in-Err.ensures;
-      leaves
-          = (refl, refl);
+      leaves = (refl, refl);
     })
     (inl (record {
       shown = _;

@@ -28,7 +28,7 @@ returns-clause-goes g c =
         ),
         ap count c.is_failure-failed.ensures,
       ),
-      c.spend.ensures,
+      c.spend.ensures.count,
     )
 
 pub returns-in_default-ended-clause-goes : goal.returns-in_default-ended-clause-goes

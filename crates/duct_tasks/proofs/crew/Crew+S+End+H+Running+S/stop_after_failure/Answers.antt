@@ -6,7 +6,8 @@ pub returns-then-matches-clause-turns : goal.returns-then-matches-clause-turns
 returns-then-matches-clause-turns g c = λ sys given.
     let self = c.args.self.now in
     let calm : self.stopped ≡ false = cc in
-    rw calm (goes_sent self.started.items c.terminate.new.self.started.items sys given c.terminate.ensures.sent)
+    rw calm (goes_sent self.started.items c.terminate.new.self.started.items sys given
+    c.terminate.ensures.sent)
 
 pub returns-else-self-clause-turns : goal.returns-else-self-clause-turns
 returns-else-self-clause-turns g c = λ sys given.

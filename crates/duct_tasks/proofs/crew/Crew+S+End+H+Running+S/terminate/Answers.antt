@@ -32,8 +32,7 @@ loop-at-init g c = record {
   failed = refl;
   stopped = refl;
   count = omega (arith, c.len-at-end.ensures, c.args.self.now.started.ok.0);
-  sent
-      = refl;
+  sent = refl;
 }
 
 pub loop-at-preserved : goal.loop-at-preserved
@@ -48,10 +47,12 @@ loop-at-preserved g c =
       failed = i.failed;
       stopped = i.stopped;
       count = length-set now.started.items c.loop-at.at c.terminate.new.task ∙ i.count;
-      sent = subst (λ (n : ℕ). ChangedBelow (λ before after. Advances (views_of g.S.System g.S.End.Numbered g.S.Child.Child g.S.Feed.Job g.S.Drain.Job)
+      sent = subst (λ (n : ℕ). ChangedBelow (λ before after. Advances
+          (views_of g.S.System g.S.End.Numbered g.S.Child.Child g.S.Feed.Job g.S.Drain.Job)
           false true before after 0) n c.args.self.now.started.items
           (set now.started.items c.loop-at.at c.terminate.new.task)) next
-          (next_changed (λ before after. Advances (views_of g.S.System g.S.End.Numbered g.S.Child.Child g.S.Feed.Job g.S.Drain.Job)
+          (next_changed (λ before after. Advances (views_of g.S.System g.S.End.Numbered
+          g.S.Child.Child g.S.Feed.Job g.S.Drain.Job)
           false true before after 0) c.loop-at.at c.args.self.now.started.items now.started.items
           c.index_mut.result.now c.terminate.new.task i.sent c.index_mut.ensures.value some
           c.terminate.ensures.goes);
