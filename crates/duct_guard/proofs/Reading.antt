@@ -8,7 +8,7 @@ use Rattle.duct_start.specs.Running.{RunningView}
 use Rattle.duct_start.specs.Start.{Grows}
 use Rattle.duct_system.specs.SystemViews.{SystemViews}
 use Rattle.duct_running.specs.Stored.{Bytes}
-use Rattle.duct.specs.Launched.{Launched, MadeBy, RunFailed, StartKind}
+use Rattle.duct.specs.Launched.{IsCall, Launched, MadeBy, RunFailed, StartKind}
 use Rattle.duct.specs.declared.expression.Expression.{Expression}
 use Rattle.duct_guard.specs.Held.{IsBegun, nothing_held}
 use Rattle.duct_guard.specs.Under.{FixedGuard, IsLeft}

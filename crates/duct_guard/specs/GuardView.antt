@@ -3,10 +3,9 @@
 use Rattle.std.specs.Prelude.{ℕ, Bool, true, false, ◌&&◌, ◌≡◌, ◌≤◌, ◌+◌, ◌⊎◌, if◌then◌else◌, List, [], ◌∷◌, ◌++◌, length, map, nat_le, take, Ok, Err, Some, IfOk, IfErr, Result}
 use Rattle.duct_system.specs.Child.{Answer}
 use Rattle.duct_system.specs.EntryView.{EntryView, Environment, OpenRead, Create, Duplicate, Parent, Canonicalize, Spawn, Close}
-use Rattle.duct_system.specs.Journal.{JournalView, GetsEnd, IsRefused}
+use Rattle.duct_system.specs.Journal.{JournalView, Asks, GetsEnd, IsRefused}
 use Rattle.duct_system.specs.Ledger.{opened_by, spent_by}
 use Rattle.duct_system.specs.SpecView.{SpecView, Vars}
-use Rattle.duct_system.specs.Streams.{ends_of}
 use Rattle.duct_system.specs.Trace.{fault_of}
 use Rattle.duct_system.specs.declared.system.Fault.{Fault}
 use Rattle.duct_system.specs.declared.system.Kind.TheVariants.{OutOfMemory, PermissionDenied}
@@ -31,12 +30,12 @@ abbrev pub ClosesFirst : ℕ → List ℕ → JournalView → JournalView → Ty
 ClosesFirst room numbers old new =
     AddsAll (map Close (take room numbers)) 0 (length (take room numbers)) old new
 
--- a spawn by this spec, with these streams, was asked and failed with this fault; or it was not
--- asked, and its ends were closed
-abbrev pub SpendsEnds : ℕ → SpecView → List (Stdio ℕ) → Fault → JournalView → JournalView → Type 0
-SpendsEnds room spec io fault old new =
-    IsRefused (Spawn spec io (Err fault)) (length (ends_of io)) fault old new
-    ⊎ ClosesFirst room (ends_of io) old new
+-- the request of this entry was asked and failed with this fault; or it was not asked, and the ends
+-- that it took were closed
+abbrev pub SpendsEnds : ℕ → EntryView → Fault → JournalView → JournalView → Type 0
+SpendsEnds room entry fault old new =
+    IsRefused entry (length (spent_by entry)) fault old new
+    ⊎ ClosesFirst room (spent_by entry) old new
 
 -- the path that a request for an end names, or the empty text
 abbrev pub path_of : {E : Type 0} → EndRequest E → List ℕ
@@ -62,6 +61,12 @@ end_entry number_of (asks.Parent side) answer = Parent side answer
 pub record GotEnd {E : Type 0} (number_of : E → ℕ) (entry : Result ℕ Fault → EntryView)
     (made : Result E Fault) (old new : JournalView) : Type 0 where
   pub ok : IfOk made (λ end. GetsEnd (entry (Ok (number_of end))) (number_of end) old new)
+  pub err : IfErr made (λ fault. IsRefused (entry (Err fault)) 0 fault old new)
+
+-- a request with such entries returned a value that they show so, or failed with this fault
+pub record GotValue {T U : Type 0} (shown : T → U) (entry : Result U Fault → EntryView)
+    (made : Result T Fault) (old new : JournalView) : Type 0 where
+  pub ok : IfOk made (λ value. Asks (entry (Ok (shown value))) old new)
   pub err : IfErr made (λ fault. IsRefused (entry (Err fault)) 0 fault old new)
 
 -- whether the request of an entry is allowed, where this is held
@@ -125,8 +130,8 @@ pub record GuardView (S P : Type 0) : Type 0 where
   pub held : Held
   pub running : List ℕ
 
--- a guard's own journal has no more room than the one below, which has what the guard forwards; what
--- is held, and which children run, is by the entries of its own
+-- a guard's own journal has no more room than the one below, which has what the guard forwards;
+-- what is held, and which children run, is by the entries of its own
 pub record Keeps (may_answer : ℕ → Answer → Type 0) (rules : Rules) (earlier held : Held)
     (own below : JournalView) (running : List ℕ) : Type 0 where
   pub within : own.room ≤ below.room

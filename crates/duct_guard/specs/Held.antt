@@ -24,8 +24,8 @@ with_ends held [] = held
 with_ends held (number ∷ numbers) =
     with_ends (record held { ends = held.ends + 1; first = min held.first number }) numbers
 
--- what is held after a request took an end: one with a lower number than all that were returned came
--- by another way, and doesn't count
+-- what is held after a request took an end: one with a lower number than all that were returned
+-- came by another way, and doesn't count
 abbrev pub without_end : Held → ℕ → Held
 without_end held number =
     if nat_le held.first number then record held { ends = held.ends - 1 } else held

@@ -4,11 +4,11 @@ ghost use Rattle.std.specs.Arc.{arc_value};
 ghost use Rattle.duct_system.specs.EntryView.{entry_view, answer_of, Environment, Pipe, OpenRead, Create, Duplicate, Parent, Canonicalize, Spawn, Feed, Drain, Reader, Close};
 ghost use Rattle.duct_system.specs.Child.{IsUnasked};
 ghost use Rattle.duct_system.specs.Job.{unpolled_job};
-ghost use Rattle.duct_system.specs.Journal.{Asks, GetsEnds, GivesEnds, IsCleared, IsRefused, RefusesChild, StartsChild};
+ghost use Rattle.duct_system.specs.Journal.{GetsEnds, GivesEnds, IsCleared, IsRefused, RefusesChild, StartsChild};
 ghost use Rattle.duct_system.specs.SpecView.{pair_text};
 ghost use Rattle.duct_system.specs.Streams.{stream_of, ends_of};
 ghost use Rattle.duct_guard.specs.Rules.{AreAllowed, AreDenied};
-ghost use Rattle.duct_guard.specs.GuardView.{ClosesFirst, ForwardsAll, GotEnd, GuardView, Keeps, OnlyForwards, SpendsEnds, allows_spawn, end_entry};
+ghost use Rattle.duct_guard.specs.GuardView.{ClosesFirst, ForwardsAll, GotEnd, GotValue, GuardView, Keeps, OnlyForwards, SpendsEnds, allows_spawn, end_entry};
 ghost use Rattle.duct_guard.specs.Held.{AlwaysFits, Fits, IsBegun, IsCrew, counts_of, held_after, nothing_held};
 
 use crate::counts::{Counts, Held};
@@ -202,11 +202,8 @@ impl<S: System, P: Policy> System for Guarded<S, P> {
     ghost feeds_say_again = { S.feeds_say_again };
 
     fn environment(&mut self) -> Result<Vec<(String, String)>, Fault>
-        ensures ok { IfOk result (λ pairs.
-            Asks (Environment (Ok (map pair_text pairs.items))) self.old.journal
-            self.new.journal) }
-        ensures err { IfErr result (λ fault.
-            IsRefused (Environment (Err fault)) 0 fault self.old.journal self.new.journal) }
+        ensures got { GotValue (λ pairs. map pair_text pairs.items) Environment result
+            self.old.journal self.new.journal }
         ensures below { OnlyForwards S.journal_view P.rules self.old self.new }
     {
         self.journal.prepare(0)?;
@@ -275,12 +272,8 @@ impl<S: System, P: Policy> System for Guarded<S, P> {
     }
 
     fn canonicalize(&mut self, path: &str) -> Result<String, Fault>
-        ensures ok { IfOk result (λ text.
-            Asks (Canonicalize path.now (Ok (string_bytes text))) self.old.journal
-            self.new.journal) }
-        ensures err { IfErr result (λ fault.
-            IsRefused (Canonicalize path.now (Err fault)) 0 fault self.old.journal
-            self.new.journal) }
+        ensures got { GotValue (λ text. string_bytes text)
+            (λ answer. Canonicalize path.now answer) result self.old.journal self.new.journal }
         ensures below { OnlyForwards S.journal_view P.rules self.old self.new }
     {
         let asked = self.journal.prepare_named(path, 0)?;
@@ -307,8 +300,9 @@ impl<S: System, P: Policy> System for Guarded<S, P> {
             ClosesFirst self.old.journal.room (map S.End.number_of (ends_of io))
             (S.journal_view self.old.inner) (S.journal_view self.new.inner) }
         ensures spends { IfErr result (λ fault.
-            SpendsEnds self.old.journal.room spec (map (stream_of S.End.number_of) io) fault
-            (S.journal_view self.old.inner) (S.journal_view self.new.inner)) }
+            let entry = Spawn spec (map (stream_of S.End.number_of) io) (Err fault) in
+            SpendsEnds self.old.journal.room entry fault (S.journal_view self.old.inner)
+            (S.journal_view self.new.inner)) }
         ensures below { OnlyForwards S.journal_view P.rules self.old self.new }
     {
         let (streams, ends) = numbered_streams(&io);
@@ -342,6 +336,10 @@ impl<S: System, P: Policy> System for Guarded<S, P> {
         ensures err { IfErr result (λ fault.
             let entry = Feed (S.End.number_of end) (arc_value bytes).items (Err fault) in
             GivesEnds entry 1 self.old.journal self.new.journal) }
+        ensures spends { IfErr result (λ fault.
+            let entry = Feed (S.End.number_of end) (arc_value bytes).items (Err fault) in
+            SpendsEnds 1 entry fault (S.journal_view self.old.inner)
+            (S.journal_view self.new.inner)) }
         ensures below { OnlyForwards S.journal_view P.rules self.old self.new }
     {
         let number = end.number();
@@ -360,6 +358,8 @@ impl<S: System, P: Policy> System for Guarded<S, P> {
         ensures err { IfErr result (λ fault.
             GivesEnds (Drain (S.End.number_of end) (Err fault)) 1 self.old.journal
             self.new.journal) }
+        ensures asked { GivesEnds (Drain (S.End.number_of end) (answer_of (λ job. tt) result)) 1
+            (S.journal_view self.old.inner) (S.journal_view self.new.inner) }
         ensures below { OnlyForwards S.journal_view P.rules self.old self.new }
     {
         let number = end.number();

@@ -192,9 +192,9 @@ fn is_below(path: &str, folder: &str) -> bool
 }
 
 /// Allows to start children that have exactly the given variables: each variable of a child has to
-/// be one of them, with the same spelling and value, and none of them may be missing. Variables with
-/// some names are free: a child may have them with any value, or not have them. All other requests
-/// are allowed.
+/// be one of them, with the same spelling and value, and none of them may be missing. Variables
+/// with some names are free: a child may have them with any value, or not have them. All other
+/// requests are allowed.
 ///
 /// `PATH` and names that begin with `LD_` choose the code that a child runs, so they aren't free
 /// unless they are listed.

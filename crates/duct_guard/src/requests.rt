@@ -234,7 +234,7 @@ pub(crate) fn spawn_allowed<S: System, P: Policy>(
         ClosesFirst room (map S.End.number_of (ends_of io)) (S.journal_view sys.old)
         (S.journal_view sys.new) }
     ensures spends { IfErr result (λ fault.
-        SpendsEnds room spec.now (map (stream_of S.End.number_of) io) fault
+        SpendsEnds room (Spawn spec.now (map (stream_of S.End.number_of) io) (Err fault)) fault
         (S.journal_view sys.old) (S.journal_view sys.new)) }
     ensures joins { IfOk result (λ child. ∥ Joins S.Child.may_answer (P.rules policy.now).at_once
         (map (λ m. m.number) crew.old.items) (S.Child.number_of child.inner)
@@ -296,6 +296,9 @@ pub(crate) fn start_shared_feed<S: System>(
         let entry = Feed (S.End.number_of end) (arc_value bytes.now).items
         (answer_of (λ job. tt) result) in
         IsForwarded rules held entry (S.journal_view sys.old) (S.journal_view sys.new) }
+    ensures spends { IfErr result (λ fault.
+        SpendsEnds 1 (Feed (S.End.number_of end) (arc_value bytes.now).items (Err fault)) fault
+        (S.journal_view sys.old) (S.journal_view sys.new)) }
     ensures unasked { IfOk result
         (λ job. S.Feed.job_view job ≡ unpolled_job (S.End.number_of end)) }
 {

@@ -1,9 +1,14 @@
 //! A traced system.
-ghost use Rattle.std.specs.Prelude.{◌≡◌, IfOk, string_bytes, None, ◌≤◌, min, length, IfErr};
+ghost use Rattle.std.specs.Prelude.{◌≡◌, ◌≤◌, ◌<◌, IfOk, IfErr, Ok, Err, None, string_bytes, min, length, map};
+ghost use Rattle.std.specs.Arc.{arc_value};
 ghost use Rattle.std.specs.Option.{option_copied};
 ghost use Rattle.duct_system.specs.Child.{IsUnasked};
-ghost use Rattle.duct_system.specs.Journal.{RefusesChild, StartsChild};
+ghost use Rattle.duct_system.specs.EntryView.{answer_of, Environment, Pipe, OpenRead, Create, Duplicate, Parent, Canonicalize, Feed, Drain, Reader, Close};
+ghost use Rattle.duct_system.specs.Job.{unpolled_job};
+ghost use Rattle.duct_system.specs.Journal.{GetsEnds, GivesEnds, IsCleared, IsRefused, RefusesChild, StartsChild};
+ghost use Rattle.duct_system.specs.SpecView.{pair_text};
 ghost use Rattle.duct_system.specs.Streams.{ends_of};
+ghost use Rattle.duct_guard.specs.GuardView.{GotEnd, GotValue};
 ghost use Rattle.duct_guard.specs.Traces.{Traces, line_in, line_of};
 
 use duct_base::transfer::write_whole;
@@ -140,31 +145,66 @@ impl<S: System, W: Write> System for Traced<S, W> {
 
     ghost feeds_say_again = { S.feeds_say_again };
 
-    fn environment(&mut self) -> Result<Vec<(String, String)>, Fault> {
+    fn environment(&mut self) -> Result<Vec<(String, String)>, Fault>
+        ensures got { GotValue (λ pairs. map pair_text pairs.items) Environment result
+            (S.journal_view self.old.system) (S.journal_view self.new.system) }
+        ensures trace { self.new ≡ record self.old { system = self.new.system } }
+    {
         self.system.environment()
     }
 
-    fn pipe(&mut self) -> Result<(S::End, S::End), Fault> {
+    fn pipe(&mut self) -> Result<(S::End, S::End), Fault>
+        ensures ok { IfOk result (λ ends.
+            let read = S.End.number_of ends.0 in
+            let write = S.End.number_of ends.1 in
+            GetsEnds (Pipe (Ok (read, write))) read write (S.journal_view self.old.system)
+            (S.journal_view self.new.system)) }
+        ensures err { IfErr result (λ fault. IsRefused (Pipe (Err fault)) 0 fault
+            (S.journal_view self.old.system) (S.journal_view self.new.system)) }
+        ensures trace { self.new ≡ record self.old { system = self.new.system } }
+    {
         self.system.pipe()
     }
 
-    fn open_read(&mut self, path: &str) -> Result<S::End, Fault> {
+    fn open_read(&mut self, path: &str) -> Result<S::End, Fault>
+        ensures got { GotEnd S.End.number_of (λ answer. OpenRead path.now answer) result
+            (S.journal_view self.old.system) (S.journal_view self.new.system) }
+        ensures trace { self.new ≡ record self.old { system = self.new.system } }
+    {
         self.system.open_read(path)
     }
 
-    fn create(&mut self, path: &str) -> Result<S::End, Fault> {
+    fn create(&mut self, path: &str) -> Result<S::End, Fault>
+        ensures got { GotEnd S.End.number_of (λ answer. Create path.now answer) result
+            (S.journal_view self.old.system) (S.journal_view self.new.system) }
+        ensures trace { self.new ≡ record self.old { system = self.new.system } }
+    {
         self.system.create(path)
     }
 
-    fn duplicate(&mut self, end: &S::End) -> Result<S::End, Fault> {
+    fn duplicate(&mut self, end: &S::End) -> Result<S::End, Fault>
+        ensures got { GotEnd S.End.number_of
+            (λ answer. Duplicate (S.End.number_of end.now) answer) result
+            (S.journal_view self.old.system) (S.journal_view self.new.system) }
+        ensures trace { self.new ≡ record self.old { system = self.new.system } }
+    {
         self.system.duplicate(end)
     }
 
-    fn parent(&mut self, side: Side) -> Result<S::End, Fault> {
+    fn parent(&mut self, side: Side) -> Result<S::End, Fault>
+        ensures got { GotEnd S.End.number_of (λ answer. Parent side answer) result
+            (S.journal_view self.old.system) (S.journal_view self.new.system) }
+        ensures trace { self.new ≡ record self.old { system = self.new.system } }
+    {
         self.system.parent(side)
     }
 
-    fn canonicalize(&mut self, path: &str) -> Result<String, Fault> {
+    fn canonicalize(&mut self, path: &str) -> Result<String, Fault>
+        ensures got { GotValue (λ text. string_bytes text)
+            (λ answer. Canonicalize path.now answer) result
+            (S.journal_view self.old.system) (S.journal_view self.new.system) }
+        ensures trace { self.new ≡ record self.old { system = self.new.system } }
+    {
         self.system.canonicalize(path)
     }
 
@@ -184,19 +224,45 @@ impl<S: System, W: Write> System for Traced<S, W> {
         self.system.spawn(spec, io)
     }
 
-    fn start_feed(&mut self, end: S::End, bytes: Arc<Vec<u8>>) -> Result<S::Feed, Fault> {
+    fn start_feed(&mut self, end: S::End, bytes: Arc<Vec<u8>>) -> Result<S::Feed, Fault>
+        requires { 0 < (S.journal_view self.old.system).room }
+        ensures added { let answer = answer_of (λ job. tt) result in
+            GivesEnds (Feed (S.End.number_of end) (arc_value bytes).items answer) 1
+            (S.journal_view self.old.system) (S.journal_view self.new.system) }
+        ensures unasked { IfOk result
+            (λ job. S.Feed.job_view job ≡ unpolled_job (S.End.number_of end)) }
+        ensures trace { self.new ≡ record self.old { system = self.new.system } }
+    {
         self.system.start_feed(end, bytes)
     }
 
-    fn start_drain(&mut self, end: S::End) -> Result<S::Drain, Fault> {
+    fn start_drain(&mut self, end: S::End) -> Result<S::Drain, Fault>
+        requires { 0 < (S.journal_view self.old.system).room }
+        ensures added { GivesEnds (Drain (S.End.number_of end) (answer_of (λ job. tt) result)) 1
+            (S.journal_view self.old.system) (S.journal_view self.new.system) }
+        ensures unasked { IfOk result
+            (λ job. S.Drain.job_view job ≡ unpolled_job (S.End.number_of end)) }
+        ensures trace { self.new ≡ record self.old { system = self.new.system } }
+    {
         self.system.start_drain(end)
     }
 
-    fn reader(&mut self, end: S::End) -> S::Reader {
+    fn reader(&mut self, end: S::End) -> S::Reader
+        requires { 0 < (S.journal_view self.old.system).room }
+        ensures added { GivesEnds (Reader (S.End.number_of end)) 1
+            (S.journal_view self.old.system) (S.journal_view self.new.system) }
+        ensures told { S.may_read (S.End.number_of end) result }
+        ensures trace { self.new ≡ record self.old { system = self.new.system } }
+    {
         self.system.reader(end)
     }
 
-    fn close(&mut self, end: S::End) {
+    fn close(&mut self, end: S::End)
+        requires { 0 < (S.journal_view self.old.system).room }
+        ensures added { GivesEnds (Close (S.End.number_of end)) 1
+            (S.journal_view self.old.system) (S.journal_view self.new.system) }
+        ensures trace { self.new ≡ record self.old { system = self.new.system } }
+    {
         self.system.close(end);
     }
 
@@ -204,7 +270,11 @@ impl<S: System, W: Write> System for Traced<S, W> {
         self.system.journal()
     }
 
-    fn clear_journal(&mut self) {
+    fn clear_journal(&mut self)
+        ensures cleared { IsCleared (S.journal_view self.old.system)
+            (S.journal_view self.new.system) }
+        ensures trace { self.new ≡ record self.old { system = self.new.system } }
+    {
         self.system.clear_journal();
     }
 }

@@ -8,13 +8,8 @@ pub invariant_of-self-inside-2 : goal.invariant_of-self-inside-2
 invariant_of-self-inside-2 g c =
     (noted_one c.self.inside.keeps (c.canonicalize_noted-text.ensures.forwards _) (notes c.in_ok-asked.ensures.ok.1 c.add.ensures c.canonicalize_noted-text.ensures.entry) (omega arith) refl refl, tt)
 
-pub returns-clause-ok : goal.returns-clause-ok
-returns-clause-ok g c =
-    let grows = (c.canonicalize_noted-text.ensures.forwards c.self.inside.held).adds.next_grows in
-    search (rules, common_steps)
-
-pub returns-clause-err : goal.returns-clause-err
-returns-clause-err g c =
+pub returns-clause-got : goal.returns-clause-got
+returns-clause-got g c =
     let grows = (c.canonicalize_noted-text.ensures.forwards c.self.inside.held).adds.next_grows in
     search (rules, common_steps)
 

@@ -8,13 +8,8 @@ pub invariant_of-self-inside-2 : goal.invariant_of-self-inside-2
 invariant_of-self-inside-2 g c =
     (noted_one c.self.inside.keeps (c.environment_noted-pairs.ensures.forwards _ _) (notes c.in_ok-prepare.ensures.ok c.add.ensures c.environment_noted-pairs.ensures.entry) (omega arith) refl refl, tt)
 
-pub returns-clause-ok : goal.returns-clause-ok
-returns-clause-ok g c =
-    let grows = (c.environment_noted-pairs.ensures.forwards (g.P.Policy.rules c.self.inside.policy) c.self.inside.held).adds.next_grows in
-    search (rules, common_steps)
-
-pub returns-clause-err : goal.returns-clause-err
-returns-clause-err g c =
+pub returns-clause-got : goal.returns-clause-got
+returns-clause-got g c =
     let grows = (c.environment_noted-pairs.ensures.forwards (g.P.Policy.rules c.self.inside.policy) c.self.inside.held).adds.next_grows in
     search (rules, common_steps)
 
