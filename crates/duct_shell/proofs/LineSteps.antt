@@ -33,12 +33,12 @@ known_after {X} {E} bytes old new left item x known ok yields =
     (there.0.0, there.0.1, there.1)
 
 -- the step at the first line, and then those at the others
-pub one_more : {F : Type 0} (Step : F → List ℕ → F → Type 0) (f f' : F) (left text : List ℕ) → 0 < length left
-    → text ≡ first_line left → Step f text f' → StepsThroughLines Step f' (drop_through 10 left) → StepsThroughLines Step f left
-one_more Step f f' left text some is step (texts, last, lines, steps) =
-    (text ∷ texts, last, (λ e. omega (arith, some, ap length e), is, lines), (f', step, steps))
+pub one_more : {F : Type 0} (Step : F → List ℕ → F → Type 0) (f f' g : F) (left text : List ℕ) → 0 < length left
+    → text ≡ first_line left → Step f text f' → StepsThroughLines Step f' (drop_through 10 left) g → StepsThroughLines Step f left g
+one_more Step f f' g left text some is step (texts, lines, steps) =
+    (text ∷ texts, (λ e. omega (arith, some, ap length e), is, lines), (f', step, steps))
 
 -- where no byte is left, there is no line
 pub no_more : {F : Type 0} (Step : F → List ℕ → F → Type 0) (f : F) (old : Option (List ℕ)) (left : List ℕ)
-    → old ≡ Some left → IsAtEnd old → StepsThroughLines Step f left
-no_more Step f old left known end = ([], f, subst IsAtEnd known end, refl)
+    → old ≡ Some left → IsAtEnd old → StepsThroughLines Step f left f
+no_more Step f old left known end = ([], subst IsAtEnd known end, refl)

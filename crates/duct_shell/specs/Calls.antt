@@ -1,11 +1,8 @@
 -- What a call of a shell does that starts an expression, from where it begins: its journal is that
 -- of the last start, unless it is kept; a limit of time counts from then.
-use Rattle.std.specs.Prelude.{ℕ, ◌+◌, ◌⊎◌, Bool, true, false, ◌≡◌, List, Ok, Err, min, Some, None, IfSome, map, string_bytes, Option, Result, String, Vec}
+use Rattle.std.specs.Prelude.{ℕ, ◌+◌, ◌⊎◌, Bool, true, false, ◌≡◌, List, Ok, Err, min, Some, None, Option, Result}
 use Rattle.std.specs.Duration.{as_nanos, max_nanos}
-use Rattle.std.specs.declared.alloc.Global.{Global}
 use Rattle.std.specs.declared.time.Duration.{Duration}
-use Rattle.std.specs.Arc.{arc_value}
-use Rattle.std.specs.declared.sync.Arc.{Arc}
 use Rattle.duct_base.specs.Pool.{PoolView}
 use Rattle.duct_system.specs.Journal.{JournalView, IsCleared}
 use Rattle.duct_system.specs.SystemViews.{SystemViews}
@@ -21,6 +18,7 @@ use Rattle.duct.specs.Launched.{IsRun, IsStart, reading}
 use Rattle.duct.specs.declared.expression.Expression.{Expression}
 use Rattle.duct.specs.TreeView.{tree_view}
 use Rattle.duct_shell.specs.FailedRequest.{Names}
+use Rattle.duct_shell.specs.FailedText.{words_of}
 use Rattle.duct_shell.specs.declared.failure.Failure.{Failure}
 use Rattle.duct_shell.specs.declared.capture.Captured.{Captured}
 
@@ -33,12 +31,6 @@ abbrev pub only_command : {E H : Type 0} → TreeView E H → Option (List (List
 only_command (command words) = Some words
 only_command (pipe left right) = None
 only_command (around modifier tree) = only_command tree
-
--- if there are words, they are those of the only command of the tree
-abbrev pub AreCommand : {E H : Type 0} → TreeView E H
-    → Option (Arc (Vec (String Global) Global) Global) → Type 0
-AreCommand tree words = IfSome words
-    (λ words. only_command tree ≡ Some (map string_bytes (arc_value words).items))
 
 module _ {S : Type 0} (journal : S → JournalView) where
   -- the journal was cleared; or it is kept, and nothing was done
@@ -81,10 +73,10 @@ module _ {S E C F D : Type 0} (views : SystemViews S E C F D (Unit {0}) Bytes) {
       (inside : Expression E H) × (tree_view inside ≡ with_captures (tree_view root))
       × IsRun views allows refuses inside before result after
 
-  -- a run whose output is kept, with the words of its command; or it failed, or there was no memory
-  -- for its nodes and nothing was done
+  -- a run whose output is kept, with the words of its only command; or it failed, or there was no
+  -- memory for its nodes and nothing was done
   abbrev pub IsRunCaptured : S × PoolView C → Result Captured Error → S × PoolView C → Type 0
   IsRunCaptured before (Ok captured) after = IsRunInside before (Ok captured.output) after
-      × AreCommand (tree_view root) captured.command
+      × (words_of captured.command ≡ only_command (tree_view root))
   IsRunCaptured before (Err e) after = IsRunInside before (Err e) after
       ⊎ ((e ≡ Memory) × (after.0 ≡ before.0) × (after.1 ≡ before.1))

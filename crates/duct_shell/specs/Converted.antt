@@ -49,7 +49,6 @@ module _ {S E C F D : Type 0} (views : SystemViews S E C F D (Unit {0}) Bytes) w
       IsAnswer views (shape_view handle.shape) handle.numbers (Ok (Some output))
   EndsFor handle (Ok done) (Err e) =
       IsAnswer views (shape_view handle.shape) handle.numbers (Err e)
-      ⊎ (e ≡ error.System (record { kind = Other }))
   EndsFor handle (Err failed) (Ok output) = ⊥
   EndsFor handle (Err failed) (Err e) =
       (e ≡ error_read (error_kind failed))

@@ -4,7 +4,8 @@ ghost use Rattle.duct_system.specs.Status.{is_success};
 ghost use Rattle.duct_system.specs.declared.error.Error.TheVariants.{Memory};
 ghost use Rattle.duct_tree.specs.NodeView.{node_view};
 ghost use Rattle.duct.specs.TreeView.{tree_view};
-ghost use Rattle.duct_shell.specs.Calls.{AreCommand, Calls, IsRunCaptured, with_captures};
+ghost use Rattle.duct_shell.specs.Calls.{Calls, IsRunCaptured, only_command, with_captures};
+ghost use Rattle.duct_shell.specs.FailedText.{words_of};
 
 use crate::failed_run::FailedRun;
 use crate::failure::Failure;
@@ -12,6 +13,7 @@ use crate::shell::{Shell, begin};
 use duct::tree::Node;
 use duct::{Error, Expression, Hook, Output, Pool, System};
 use duct_system::views::Viewed;
+use std::alloc::AllocError;
 use std::sync::{Arc, Wait};
 
 /// What a run came to, with all that it wrote.
@@ -65,8 +67,8 @@ pub fn run_captured<S: System, H: Hook>(
     ensures { IsRunCaptured ⟦<S as Viewed>⟧.views H.allows H.refuses expression.now
         (system.old, pool.old) result (system.new, pool.new) }
 {
+    let command = command_of(expression.root())?;
     let output = with_captures(expression)?.run(rt, system, pool)?;
-    let command = command_of(expression.root());
     Ok(Captured { output, command })
 }
 
@@ -101,13 +103,14 @@ fn with_captures<E: Drop, H: Hook>(expression: &Expression<E, H>) -> Result<Expr
     expression.stdout_capture()?.stderr_capture()?.unchecked()
 }
 
-// Returns the words of the command of a node that has one alone.
-fn command_of<E, H>(node: &Node<E, H>) -> Option<Arc<Vec<String>>>
-    ensures { AreCommand (node_view node.now) result }
+// Returns the words of the command of a node that has one alone. Fails where they can have no
+// further owner.
+fn command_of<E, H>(node: &Node<E, H>) -> Result<Option<Arc<Vec<String>>>, AllocError>
+    ensures { IfOk result (λ words. words_of words ≡ only_command (node_view node.now)) }
 {
     match node {
-        Node::Cmd(words) => Arc::try_clone(words).ok(),
-        Node::Pipe(_, _) => None,
+        Node::Cmd(words) => Ok(Some(Arc::try_clone(words)?)),
+        Node::Pipe(_, _) => Ok(None),
         Node::Io(_, inner) => command_of(inner),
     }
 }

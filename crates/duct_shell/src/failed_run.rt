@@ -1,6 +1,9 @@
 //! How a run failed, with the end of what it wrote to stderr.
-ghost use Rattle.std.specs.Prelude.{◌≡◌, ◌≤◌, length};
+ghost use Rattle.std.specs.Fmt.{DisplaysOnOk};
+ghost use Rattle.std.specs.Prelude.{◌≡◌, ◌≤◌, ◌++◌, Some, codes, length};
 ghost use Rattle.std.specs.Io.BufRead.{drop_through};
+ghost use Rattle.duct_status.specs.Message.{status_text};
+ghost use Rattle.duct_shell.specs.FailedText.{failed_text, stderr_text, subject_text, without_newline, words_of};
 ghost use Rattle.duct_shell.specs.Lines.{BeginsLine, last_lines};
 
 use duct::{ExitStatus, Output};
@@ -34,25 +37,61 @@ impl FailedRun {
 }
 
 impl fmt::Display for FailedRun {
+    ghost output = { failed_text };
+
     fn fmt<W: fmt::Write>(&self, f: &mut fmt::Formatter<W>) -> fmt::Result {
-        match &self.command {
-            Some(words) => write!(f, "command {:?}", words.as_slice())?,
-            None => f.write_str("expression")?,
-        }
-        match self.output.status {
-            ExitStatus::Code(code) => write!(f, " exited with code {code}")?,
-            ExitStatus::Signal(signal) => write!(f, " exited with code <signal {signal}>")?,
-        }
-        write_stderr(self.last_lines(), f)
+        write_subject(&self.command, f)?;
+        write_status(self.output.status, f)?;
+        write_stderr(without_newline(self.last_lines()), f)
     }
 }
 
-// Writes the end of stderr without its last newline, if anything is left.
-fn write_stderr<W: fmt::Write>(tail: &[u8], f: &mut fmt::Formatter<W>) -> fmt::Result {
-    let tail = tail.strip_suffix(b"\n").unwrap_or(tail);
+// Writes what failed: a command with its words, or an expression.
+fn write_subject<W: fmt::Write>(
+    command: &Option<Arc<Vec<String>>>,
+    f: &mut fmt::Formatter<W>,
+) -> fmt::Result
+    ensures { DisplaysOnOk W.write_str_gives f.old result (subject_text (words_of command.now)) f.new }
+{
+    match command {
+        Some(words) => write!(f, "command {:?}", words.as_slice()),
+        None => f.write_str("expression"),
+    }
+}
+
+// Writes how it ended.
+fn write_status<W: fmt::Write>(status: ExitStatus, f: &mut fmt::Formatter<W>) -> fmt::Result
+    ensures { DisplaysOnOk W.write_str_gives f.old result
+        (Some (codes " exited with code " ++ status_text status)) f.new }
+{
+    match status {
+        ExitStatus::Code(code) => write!(f, " exited with code {code}"),
+        ExitStatus::Signal(signal) => write!(f, " exited with code <signal {signal}>"),
+    }
+}
+
+// Returns the bytes without the newline at their end.
+fn without_newline(bytes: &[u8]) -> &[u8]
+    ensures { result.now ≡ without_newline bytes.now }
+{
+    bytes.strip_suffix(b"\n").unwrap_or(bytes)
+}
+
+// Writes the end of stderr, if anything is left, with a line before it.
+fn write_stderr<W: fmt::Write>(tail: &[u8], f: &mut fmt::Formatter<W>) -> fmt::Result
+    ensures { DisplaysOnOk W.write_str_gives f.old result (stderr_text tail.now) f.new }
+{
     if tail.is_empty() {
         return Ok(());
     }
+    match str::from_utf8(tail) {
+        Ok(text) => write!(f, "\n--- stderr\n{text}"),
+        Err(_) => write_escaped(tail, f),
+    }
+}
+
+// Does this with bytes that aren't UTF-8.
+fn write_escaped<W: fmt::Write>(tail: &[u8], f: &mut fmt::Formatter<W>) -> fmt::Result {
     f.write_str("\n--- stderr\n")?;
     for chunk in tail.utf8_chunks() {
         f.write_str(chunk.valid())?;
@@ -62,6 +101,8 @@ fn write_stderr<W: fmt::Write>(tail: &[u8], f: &mut fmt::Formatter<W>) -> fmt::R
 }
 
 impl fmt::Debug for FailedRun {
+    ghost debug_output = { failed_text };
+
     fn fmt<W: fmt::Write>(&self, f: &mut fmt::Formatter<W>) -> fmt::Result {
         write!(f, "{self}")
     }

@@ -1,6 +1,6 @@
 //! Why a call of a shell failed.
 ghost use Rattle.std.specs.IoError.{error_kind};
-ghost use Rattle.std.specs.Prelude.{◌≡◌, map, None};
+ghost use Rattle.std.specs.Prelude.{◌≡◌, map, None, option_map, string_bytes};
 ghost use Rattle.duct_system.specs.EntryView.{entry_view};
 ghost use Rattle.duct_system.specs.Kinds.{kind_of};
 ghost use Rattle.duct_system.specs.declared.error.Error.TheVariants.{Memory, System};
@@ -38,6 +38,8 @@ impl Failure {
 }
 
 impl fmt::Display for Failure {
+    ghost output = { λ failure. option_map string_bytes failure.request };
+
     fn fmt<W: fmt::Write>(&self, f: &mut fmt::Formatter<W>) -> fmt::Result {
         match &self.request {
             Some(request) => f.write_str(request.as_str()),
@@ -47,6 +49,8 @@ impl fmt::Display for Failure {
 }
 
 impl fmt::Debug for Failure {
+    ghost debug_output = { λ failure. option_map string_bytes failure.request };
+
     fn fmt<W: fmt::Write>(&self, f: &mut fmt::Formatter<W>) -> fmt::Result {
         write!(f, "{self}")
     }

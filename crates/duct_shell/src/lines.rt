@@ -1,9 +1,8 @@
 //! The lines of a reader, and how an expression ended whose handle was read by std's calls.
-ghost use Rattle.std.specs.Prelude.{◌≡◌, IfSome, OnOk, Ok};
-ghost use Rattle.std.specs.Fn.{CalledAt};
+ghost use Rattle.std.specs.Prelude.{◌≡◌, IfErr, IfSome, OnOk, Ok, Err};
 ghost use Rattle.std.specs.IoError.{error_kind};
 ghost use Rattle.duct_shell.specs.Converted.{EndsFor, error_read};
-ghost use Rattle.duct_shell.specs.Lines.{StepsThroughLines};
+ghost use Rattle.duct_shell.specs.Lines.{Gives, StepsThroughLines, StepsUntil};
 
 use duct::{Error, Fault, Kind, Output, ReaderHandle, System};
 use duct_system::views::Viewed;
@@ -26,11 +25,28 @@ pub fn each_line<R: Read + Drop, F: FnMut(&str) -> io::Result<()>>(
     mut each: F,
 ) -> io::Result<()>
     requires { F.IsAlwaysCallable each }
-    ensures { OnOk result (IfSome (R.remaining reader) (StepsThroughLines
-        (λ before text after. CalledAt F.FnMut before text (Ok tt) after) each)) }
+    ensures { OnOk result (IfSome (R.remaining reader)
+        (λ bytes. (last : F) × StepsThroughLines (Gives F.FnMut (Ok tt)) each bytes last)) }
+{
+    pass_lines(alloc, reader, &mut each)
+}
+
+// Does this with a closure that is lent, so that its clauses can say that there was no further
+// call, and that an error is the closure's where its last call failed.
+fn pass_lines<R: Read + Drop, F: FnMut(&str) -> io::Result<()>>(
+    alloc: Global,
+    reader: R,
+    each: &mut F,
+) -> io::Result<()>
+    requires { F.IsAlwaysCallable each.old }
+    ensures ok { OnOk result (IfSome (R.remaining reader)
+        (λ bytes. StepsThroughLines (Gives F.FnMut (Ok tt)) each.old bytes each.new)) }
+    ensures err { IfErr result (λ error. StepsUntil (Gives F.FnMut (Ok tt))
+        (Gives F.FnMut (Err error)) each.old each.new) }
 {
     for line in BufReader::new(alloc, reader)?.lines(alloc) {
-        each(line?.as_str())?;
+        let passed = each(line?.as_str());
+        passed?;
     }
     Ok(())
 }

@@ -1,5 +1,5 @@
 //! A system with the pool, the runtime and the allocator that each call over it needs.
-ghost use Rattle.std.specs.Prelude.{◌≡◌, ◌∷◌, [], drop, length, map, false, None, Ok, Err, IfErr, IfOk, OnOk, IsOkUnless};
+ghost use Rattle.std.specs.Prelude.{◌≡◌, ◌∷◌, [], drop, length, map, false, None, Ok, Err, IfErr, IfOk, OnErr, OnOk, IsOkUnless};
 ghost use Rattle.duct_system.specs.EntryView.{entry_view};
 ghost use Rattle.duct_system.specs.Journal.{IsCleared};
 ghost use Rattle.duct_system.specs.SpecView.{texts_of};
