@@ -77,15 +77,6 @@ some_closed room numbers old new closes = record {
       let kept = closes.room_is in let few = length-take room numbers in omega (arith, kept, few);
 }
 
--- a request for a worker, which takes an end
-pub worker_asked : {J : Type 0} (entry : Result (Unit {0}) Fault → EntryView)
-    (old new : JournalView) (made : Result J Fault)
-    → IfOk made (λ job. Adds (entry (Ok tt)) 0 1 old new)
-    → IfErr made (λ fault. Adds (entry (Err fault)) 0 1 old new)
-    → Adds (entry (answer_of (λ job. tt) made)) 0 1 old new
-worker_asked entry old new (Ok job) ok err = ok
-worker_asked entry old new (Err fault) ok err = err
-
 module _ (rules : Rules) (held : Held) where
   -- an allowed request that was passed on
   pub passed : (entry : EntryView) (old new : JournalView) → may_ask rules held entry ≡ true
@@ -158,10 +149,10 @@ module _ (rules : Rules) (held : Held) where
       → IfOk made (λ job. Adds (entry (Ok tt)) 0 1 old new)
       → IfErr made (λ fault. Adds (entry (Err fault)) 0 1 old new)
       → IsForwarded rules held (entry (answer_of (λ job. tt) made)) old new
-  worker_answered entry n old new made allowed none closed ok err =
-      let answer = answer_of (λ job. tt) made in
-      passed (entry answer) old new (allowed answer)
-      (rw (none answer, closed answer) (worker_asked entry old new made ok err))
+  worker_answered entry n old new (Ok job) allowed none closed ok err =
+      passed (entry (Ok tt)) old new (allowed (Ok tt)) (rw (none (Ok tt), closed (Ok tt)) ok)
+  worker_answered entry n old new (Err f) allowed none closed ok err =
+      passed (entry (Err f)) old new (allowed (Err f)) (rw (none (Err f), closed (Err f)) err)
 
   -- the result of a spawn by a copy of the spec
   pub child_answered : {C : Type 0} (number : C → ℕ) (spec copy : SpecView)
