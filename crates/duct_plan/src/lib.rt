@@ -1,5 +1,5 @@
 //! The requests of a start of an expression, computed from the tree alone: the plan, as text and as
-//! a drawing.
+//! a drawing. Duplicates, the parent's streams and closes are in no plan.
 #![tactic(auto)]
 
 mod dot;

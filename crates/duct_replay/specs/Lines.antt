@@ -175,8 +175,8 @@ pub record IsSmall (n : ℤ) : Type 0 where
   pub least : int_lt n (negsuc 2147483647) ≡ false
   pub most : int_lt (pos 2147483647) n ≡ false
 
--- what each item has, and so can be written: the variables of a spec are in order, a child has three
--- streams, bytes are below 256, and an exit status has 32 bits
+-- what each item has, and so can be written: the variables of a spec are in order, a child has
+-- three streams, bytes are below 256, and an exit status has 32 bits
 abbrev pub IsWritable : ItemView → Type 0
 IsWritable (Noted (Spawn spec streams answer)) = AreOrdered spec.vars × (length streams ≡ 3)
 IsWritable (Noted (Feed end bytes answer)) = AreBytes bytes

@@ -53,7 +53,8 @@ abbrev pub IsToldRight : Bool → EntryView → Option EntryView → Type 0
 IsToldRight true entry next = next ≡ Some entry
 IsToldRight false entry next = next ≢ Some entry
 
--- what was found for a request: a result that fits, and whether the next entry is the request with it
+-- what was found for a request: a result that fits, and whether the next entry is the request with
+-- it
 pub record Finds {T : Type 0} (entry : Result T Fault → EntryView) (fits : Result T Fault → Type 0)
     (next : Option EntryView) (answer : Result T Fault) (agrees : Bool) : Type 0 where
   pub answers : Answers entry fits next answer agrees

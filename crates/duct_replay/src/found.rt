@@ -13,8 +13,8 @@ use duct_system::system::{Entry, Fault, Kind, Side, Stdio};
 use std::alloc::Global;
 use std::sync::Arc;
 
-/// The result of a request, and whether that is recorded next: else the request isn't, and the result
-/// is the fault `Other`.
+/// The result of a request, and whether that is recorded next: else the request isn't, and the
+/// result is the fault `Other`.
 pub(crate) type Found<T> = (Result<T, Fault>, bool);
 
 /// Returns the fault of a request that isn't what is recorded next.

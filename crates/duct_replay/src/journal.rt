@@ -58,8 +58,8 @@ pub fn read_journal(alloc: Global, text: &str) -> Result<Vec<Entry>, LineRefusal
 }
 
 /// Returns the recording of a text, which has one item a line: an entry, how a child ended, or what
-/// was read of an end. A line ends with a newline, with a carriage return and a newline, or with the
-/// text. The text of a journal is that of a recording without the rest.
+/// was read of an end. A line ends with a newline, with a carriage return and a newline, or with
+/// the text. The text of a journal is that of a recording without the rest.
 ///
 /// Fails at the first line that is read as no item, and with `Refusal::Memory` at an allocation
 /// failure.

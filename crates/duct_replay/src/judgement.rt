@@ -75,8 +75,8 @@ fn start<H: Hook>(
     }
 }
 
-// Returns the verdict on recorded entries, where the start made those and failed with this error, if
-// it failed. Fails at an allocation failure, also at one of the start that isn't recorded.
+// Returns the verdict on recorded entries, where the start made those and failed with this error,
+// if it failed. Fails at an allocation failure, also at one of the start that isn't recorded.
 fn verdict_on(
     alloc: Global,
     recorded: &[Entry],

@@ -1,8 +1,8 @@
 //! A system that is recorded.
-ghost use Rattle.std.specs.Prelude.{◌≡◌, IfOk, ◌≤◌, min, length, IfErr};
+ghost use Rattle.std.specs.Prelude.{◌≡◌, [], IfOk, ◌≤◌, min, length, IfErr};
 ghost use Rattle.duct_replay.specs.RecordingView.{NotesOnly, RecordingView};
 ghost use Rattle.duct_system.specs.Child.{IsUnasked};
-ghost use Rattle.duct_system.specs.Journal.{RefusesChild, StartsChild};
+ghost use Rattle.duct_system.specs.Journal.{IsCleared, RefusesChild, StartsChild};
 ghost use Rattle.duct_system.specs.Streams.{ends_of};
 
 use crate::recorded::{
@@ -189,7 +189,12 @@ impl<S: System> System for Recorder<S> {
     }
 
     // What was noted is dropped too.
-    fn clear_journal(&mut self) {
+    fn clear_journal(&mut self)
+        ensures cleared { IsCleared (S.journal_view self.old.inner)
+            (S.journal_view self.new.inner) }
+        ensures endings { self.new.endings.items ≡ [] }
+        ensures outputs { self.new.outputs.items ≡ [] }
+    {
         self.inner.clear_journal();
         self.endings.clear();
         self.outputs.clear();

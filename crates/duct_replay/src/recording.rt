@@ -42,8 +42,8 @@ impl Recording {
         }
     }
 
-    /// Adds an entry behind the others. Fails at an allocation failure, and leaves the recording as it
-    /// was.
+    /// Adds an entry behind the others. Fails at an allocation failure, and leaves the recording as
+    /// it was.
     pub fn push_entry(&mut self, entry: Entry) -> Result<(), AllocError>
         ensures ok { OnOk result (self.new ≡ record self.old {
           entries = self.old.entries ++ entry_view entry ∷ [];

@@ -240,8 +240,8 @@ impl Job for ReplayDrain {
     ghost has_number = { λ _. refl };
 }
 
-/// A reader that reads what was recorded of its end. Where nothing is recorded, each read fails with
-/// `Other`, and where the bytes could have no further owner, with `OutOfMemory`.
+/// A reader that reads what was recorded of its end. Where nothing is recorded, each read fails
+/// with `Other`, and where the bytes could have no further owner, with `OutOfMemory`.
 #[derive(Drop)]
 pub struct ReplayReader {
     number: u64,

@@ -1,5 +1,5 @@
--- A text of an expression for a shell, or why it has none; and what contracts see of what a modifier
--- is to a shell.
+-- A text of an expression for a shell, or why it has none; and what contracts see of what a
+-- modifier is to a shell.
 use Rattle.std.specs.Prelude.{◌≡◌, ℕ, List, [], ◌∷◌, ◌++◌, Bool, false, ◌==◌, ◌||◌, Some, None, Ok, Err, if◌then◌else◌, is_some, codes, Option, Result}
 use Rattle.std.specs.List.{list_any}
 use Rattle.duct_base.specs.Executable.{asks_canonical, dotted}

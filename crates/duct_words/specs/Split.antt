@@ -1,5 +1,5 @@
--- What a shell takes a character for, as its code says; the tokens of a text, read one byte after the
--- other, or why it has none; and what contracts see of tokens, and of what was read so far.
+-- What a shell takes a character for, as its code says; the tokens of a text, read one byte after
+-- the other, or why it has none; and what contracts see of tokens, and of what was read so far.
 use Rattle.std.specs.Prelude.{◌≡◌, ℕ, suc, List, [], ◌∷◌, ◌++◌, Bool, true, false, ◌==◌, ◌&&◌, ◌||◌, not, Ok, Err, if◌then◌else◌, codes, map, string_bytes, bytes_eq, Result}
 use Rattle.std.specs.Char.{is_ascii_alphanumeric, is_ascii_digit}
 use Rattle.std.specs.List.{list_all, list_any}

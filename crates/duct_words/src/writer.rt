@@ -21,10 +21,13 @@ use std::convert::AsStr;
 /// Each program stands behind `env`, with the variables that the expression sets, so a shell takes
 /// it for no function and no command of its own. `unchecked` is `|| true`, a folder is that of
 /// `cd -P`, and subshells stand around what these and redirections are for. Without `pipefail` a
-/// shell doesn't see that the left side of a pipe failed. After `set -o pipefail` the status is 0
-/// where the run succeeds, and another where it fails. But where a file can't be opened, a folder
-/// isn't there or a program can't be started, the run fails, and a shell starts the other sides of a
-/// pipe all the same: inside of `unchecked`, `|| true` then hides the failure from it.
+/// shell doesn't see that the left side of a pipe failed.
+///
+/// After `set -o pipefail` the status is 0 where the run succeeds, and another where a command
+/// fails that is checked. Where a file can't be opened, a folder isn't there or a program can't be
+/// started, the run fails; a shell goes on with the rest, and inside of `unchecked` its status is
+/// 0. It may also write `Killed` and the like into the stderr of what a signal ended. zsh runs the
+/// text so only after `emulate sh`: in its own mode it sends a stream to a file and a pipe both.
 ///
 /// Fails with the reason where a shell can't say it: at hooks, captures, bytes for stdin, ends of
 /// the caller, removed variables, and some names and paths; and at an allocation failure. A text is
