@@ -16,11 +16,11 @@ const FIRST: u64 = 20;
 const SHORT: u64 = 1_000;
 
 /// The longest park, in microseconds.
-const LONG: u64 = 10_000;
+const LONG: u64 = 50_000;
 
 /// The state of a wait's pauses: some yields, then parks that grow. A park takes at most a
 /// millisecond while the sum of the pauses is below 100 milliseconds, then one percent of that sum,
-/// at most 10 milliseconds.
+/// at most 50 milliseconds.
 #[derive(Drop)]
 pub struct Pause {
     parker: Parker,
@@ -47,7 +47,7 @@ impl Pause {
         ensures yields { IfNone result ((self.old.yields < 64)
             × (self.new.yields ≡ self.old.yields + 1)
             × (self.new.waited ≡ self.old.waited) × (self.new.park ≡ self.old.park)) }
-        ensures parks { IfSome result (λ park. (park ≤ self.old.park) × (park ≤ 10000)
+        ensures parks { IfSome result (λ park. (park ≤ self.old.park) × (park ≤ 50000)
             × ((park ≤ 1000) ⊎ (100 * park ≤ self.old.waited))
             × (self.new.yields ≡ self.old.yields)) }
         ensures waits { IfSome result (λ park.
@@ -66,7 +66,7 @@ impl Pause {
         Some(park)
     }
 
-    /// Pauses once: it yields, or blocks for at most 10 milliseconds.
+    /// Pauses once: it yields, or blocks for at most 50 milliseconds.
     pub fn rest(&mut self, rt: &impl Wait) {
         match self.next() {
             Some(park) => self.parker.park_timeout(rt, Duration::from_micros(park)),
