@@ -3,6 +3,7 @@ use Rattle.std.specs.Prelude.{◌≡◌, ◌⊎◌, Err, List, length, map}
 use Rattle.duct_base.specs.Pool.{Loses, PoolView}
 use Rattle.duct_system.specs.declared.error.Error.{Error}
 use Rattle.duct_system.specs.declared.error.Error.TheVariants as error
+use Rattle.duct_system.specs.declared.system.Kind.TheVariants.{Other}
 use Rattle.duct_status.specs.Outcome.{Concludes}
 use Rattle.duct_status.specs.ReplyView.{ReplyView}
 use Rattle.duct_status.specs.ShapeView.{shape_view}
@@ -38,11 +39,15 @@ module _ {S E C F D : Type 0} (views : SystemViews S E C F D (Unit {0}) Bytes) w
   RanUntilGiven running holds before after =
       RanUntil running (λ waited. holds waited × PoolGets views waited.children before after)
 
+-- the error of a call that finds another shape or other numbers under a handle's lock than it keeps
+abbrev pub IsMismatch : Error → Type 0
+IsMismatch e = e ≡ error.System (record { kind = Other })
+
 module _ {S E C F D V W : Type 0} (views : SystemViews S E C F D V W) where
-  -- children were given to the pool: those of these numbers; or others, and as many as these were
-  -- lost
-  abbrev pub AreGiven : NumbersView → PoolView C → PoolView C → Type 0
-  AreGiven numbers before after =
+  -- children were given to the pool: those of these numbers; or, only if this holds, others, and as
+  -- many as these were lost
+  abbrev pub AreGiven : NumbersView → Type 0 → PoolView C → PoolView C → Type 0
+  AreGiven numbers unless before after =
       (children : List C) × (given : PoolView C) × PoolGets views children before given
       × (((map (λ c. c.number) (map views.child children) ≡ numbers.children) × (after ≡ given))
-      ⊎ Loses (length numbers.children) given after)
+      ⊎ (unless × Loses (length numbers.children) given after))

@@ -122,13 +122,14 @@ pub(crate) fn into_locked<S: System>(handle: Handle<S>) -> (Running<S>, Arc<Shap
     (lock.into_running(), shape, numbers)
 }
 
-// Gives the children of what a lock held to a pool. Where they don't have the numbers that were kept
-// outside the lock, which no start causes, as many as those are counted as lost besides.
+// Gives the children of what a lock held to a pool. Where they don't have the numbers that were
+// kept outside the lock, which no start causes, as many as those are counted as lost besides.
 pub(crate) fn give_up_released<S: System>(
     released: (Running<S>, Arc<Shape>, Numbers),
     pool: &mut Pool<S::Child>,
 )
-    ensures { AreGiven ⟦<S as Viewed>⟧.views (numbers_view released.2) pool.old pool.new }
+    ensures { AreGiven ⟦<S as Viewed>⟧.views (numbers_view released.2) (Unit {0}) pool.old
+        pool.new }
 {
     let (running, shape, numbers) = released;
     let is_known = running.is_of(&shape, &numbers);
@@ -147,7 +148,7 @@ impl<S: System> Handle<S> {
     /// Nothing is killed and nothing is waited for. The workers go on by themselves. It allocates
     /// nothing and can't fail.
     pub fn give_up(self, pool: &mut Pool<S::Child>)
-        ensures { AreGiven ⟦<S as Viewed>⟧.views self.numbers pool.old pool.new }
+        ensures { AreGiven ⟦<S as Viewed>⟧.views self.numbers (Unit {0}) pool.old pool.new }
     {
         give_up_released(into_locked(self), pool);
     }

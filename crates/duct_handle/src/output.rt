@@ -7,7 +7,7 @@ ghost use Rattle.duct_running.specs.Answered.{IsAnswer, IsConcluded};
 ghost use Rattle.duct_running.specs.Polled.{IsOutput};
 ghost use Rattle.duct_status.specs.ReplyView.{answered};
 ghost use Rattle.duct_running.specs.NumbersView.{numbers_view};
-ghost use Rattle.duct_handle.specs.Finished.{AreGiven};
+ghost use Rattle.duct_handle.specs.Finished.{AreGiven, IsMismatch};
 
 use crate::buffers::{give_up_released, into_locked};
 use crate::handle::Handle;
@@ -99,8 +99,8 @@ fn checked_output_or_give_up<S: System>(
     ensures err { IfErr result (λ e. (waited ≡ Err e) ⊎ (e ≡ Error.Memory)
         ⊎ (e ≡ Error.System (record { kind = Kind.Other }))) }
     ensures kept { OnOk result (pool.new ≡ pool.old) }
-    ensures given { OnErr result
-        (AreGiven ⟦<S as Viewed>⟧.views (numbers_view released.2) pool.old pool.new) }
+    ensures given { IfErr result (λ e. AreGiven ⟦<S as Viewed>⟧.views (numbers_view released.2)
+        (IsMismatch e) pool.old pool.new) }
 {
     let (ran, shape, numbers) = released;
     if !ran.is_of(&shape, &numbers) {
@@ -124,8 +124,8 @@ impl<S: System> Handle<S> {
         ensures err { IfErr result
             (λ e. IsAnswer ⟦<S as Viewed>⟧.views (shape_view self.shape) self.numbers (Err e)) }
         ensures kept { OnOk result (pool.new ≡ pool.old) }
-        ensures given { OnErr result
-            (AreGiven ⟦<S as Viewed>⟧.views self.numbers pool.old pool.new) }
+        ensures given { IfErr result (λ e. AreGiven ⟦<S as Viewed>⟧.views self.numbers
+            (IsMismatch e) pool.old pool.new) }
     {
         let waited = self.wait(rt);
         let alloc = self.alloc;

@@ -144,7 +144,7 @@ impl<S: System, R: Drop> ReaderHandle<S, R> {
     /// Closes the pipe and gives the children to a pool, as `Handle::give_up` does. A command that
     /// goes on writing to the pipe gets a broken pipe. It doesn't block and can't fail.
     pub fn give_up(self, pool: &mut Pool<S::Child>)
-        ensures { AreGiven ⟦<S as Viewed>⟧.views self.numbers pool.old pool.new }
+        ensures { AreGiven ⟦<S as Viewed>⟧.views self.numbers (Unit {0}) pool.old pool.new }
     {
         let ReaderHandle { rt, handle, pipe } = self;
         drop((rt, pipe));

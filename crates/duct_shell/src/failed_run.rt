@@ -51,7 +51,8 @@ fn write_subject<W: fmt::Write>(
     command: &Option<Arc<Vec<String>>>,
     f: &mut fmt::Formatter<W>,
 ) -> fmt::Result
-    ensures { DisplaysOnOk W.write_str_gives f.old result (subject_text (words_of command.now)) f.new }
+    ensures { DisplaysOnOk W.write_str_gives f.old result
+        (subject_text (words_of command.now)) f.new }
 {
     match command {
         Some(words) => write!(f, "command {:?}", words.as_slice()),

@@ -1,5 +1,5 @@
 //! A system with the pool, the runtime and the allocator that each call over it needs.
-ghost use Rattle.std.specs.Prelude.{◌≡◌, ◌∷◌, [], drop, length, map, false, None, Ok, Err, IfErr, IfOk, OnErr, OnOk, IsOkUnless};
+ghost use Rattle.std.specs.Prelude.{◌≡◌, ◌∷◌, [], drop, length, map, false, None, Ok, Err, IfErr, IfOk, OnOk, IsOkUnless};
 ghost use Rattle.duct_system.specs.EntryView.{entry_view};
 ghost use Rattle.duct_system.specs.Journal.{IsCleared};
 ghost use Rattle.duct_system.specs.SpecView.{texts_of};
@@ -9,7 +9,7 @@ ghost use Rattle.duct_status.specs.ReplyView.{answered};
 ghost use Rattle.duct_status.specs.ShapeView.{shape_view};
 ghost use Rattle.duct_start.specs.TreeView.{command};
 ghost use Rattle.duct_running.specs.Answered.{IsAnswer, IsConcluded};
-ghost use Rattle.duct_handle.specs.Finished.{AreGiven};
+ghost use Rattle.duct_handle.specs.Finished.{AreGiven, IsMismatch};
 ghost use Rattle.duct_handle.specs.Obeyed.{IsObeyed};
 ghost use Rattle.duct.specs.Launched.{IsRead, IsRun, IsStart, draining};
 ghost use Rattle.duct.specs.TreeView.{tree_view};
@@ -146,7 +146,7 @@ impl<S: System, R, H: Drop> Shell<S, R, H> {
     /// Gives up what a handle runs, as `Handle::give_up` does: its children go to the shell's pool.
     /// Nothing is killed and nothing is waited for.
     pub fn give_up(&mut self, handle: Handle<S>)
-        ensures given { AreGiven ⟦<S as Viewed>⟧.views handle.numbers self.old.pool
+        ensures given { AreGiven ⟦<S as Viewed>⟧.views handle.numbers (Unit {0}) self.old.pool
             self.new.pool }
         ensures system { self.new.system ≡ self.old.system }
         ensures keeps { self.new.keeps_journal ≡ self.old.keeps_journal }
@@ -300,8 +300,8 @@ impl<S: System, R: Wait, H: Hook> Shell<S, R, H> {
             (shape_view handle.shape) handle.numbers (Err failure.error)) }
         ensures request { IfErr result (λ failure. failure.request ≡ None) }
         ensures kept { OnOk result (self.new.pool ≡ self.old.pool) }
-        ensures given { OnErr result
-            (AreGiven ⟦<S as Viewed>⟧.views handle.numbers self.old.pool self.new.pool) }
+        ensures given { IfErr result (λ failure. AreGiven ⟦<S as Viewed>⟧.views handle.numbers
+            (IsMismatch failure.error) self.old.pool self.new.pool) }
         ensures system { self.new.system ≡ self.old.system }
         ensures keeps { self.new.keeps_journal ≡ self.old.keeps_journal }
     {
@@ -320,7 +320,7 @@ impl<S: System, R: Wait, H: Hook> Shell<S, R, H> {
         ensures failed { IfErr result (λ failure.
             IsObeyed ⟦<S as Viewed>⟧.views Kill handle.numbers.children (Err failure.error)) }
         ensures request { IfErr result (λ failure. failure.request ≡ None) }
-        ensures given { AreGiven ⟦<S as Viewed>⟧.views handle.numbers self.old.pool
+        ensures given { AreGiven ⟦<S as Viewed>⟧.views handle.numbers (Unit {0}) self.old.pool
             self.new.pool }
         ensures system { self.new.system ≡ self.old.system }
         ensures keeps { self.new.keeps_journal ≡ self.old.keeps_journal }
