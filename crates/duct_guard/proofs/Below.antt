@@ -1,10 +1,6 @@
 -- What a request of a guard asks the system below.
 use Rattle.std.proofs.Common.{◌≡◌, refl, sym, subst, ◌∙◌, arith, ℕ, [], ◌∷◌}
-use Rattle.std.proofs.lemmas.List.{append-nil}
-use Rattle.duct_system.specs.EntryView.{EntryView}
-use Rattle.duct_system.specs.Journal.{JournalView}
-use Rattle.duct_guard.specs.GuardView.{GuardView, IsForwarded, OnlyForwards}
-use Rattle.duct_guard.specs.Rules.{Rules}
+use Rattle.duct_guard.proofs.Common.{append-nil, EntryView, JournalView, GuardView, IsForwarded, OnlyForwards, Rules}
 use Rattle.duct_guard.proofs.Counting.{Notes}
 
 module _ {S P : Type 0} (journal_view : S → JournalView) (rules : P → Rules) where

@@ -1,14 +1,9 @@
 -- Ends that are closed as far as there is room, stream by stream.
 use Rattle.std.proofs.Common.{◌≡◌, refl, ap, sym, subst, ◌∙◌, arith, append_assoc, ◌+◌, ◌-◌, get_or, ℕ, zero, suc, List, [], ◌∷◌, ◌++◌, map, take, length, Ok, Err, IfErr, Result}
-use Rattle.std.proofs.lemmas.List.{append-nil, map-append, length-append, length-map}
+use Rattle.duct_guard.proofs.Common.{append-nil, map-append, length-map, EntryView, Close, JournalView, stream_of, end_of, ends_of, Fault, Stdio, AddsAll, ClosesFirst}
+use Rattle.std.proofs.lemmas.List.{length-append}
 use native.Mathlib.Nat.{sub-zero}
-use Rattle.duct_system.specs.EntryView.{EntryView, Close}
-use Rattle.duct_system.specs.Journal.{JournalView}
-use Rattle.duct_system.specs.Streams.{stream_of, end_of, ends_of}
-use Rattle.duct_system.specs.declared.system.Fault.{Fault}
-use Rattle.duct_system.specs.declared.system.Stdio.{Stdio}
 use Rattle.duct_system.specs.declared.system.Stdio.TheVariants.{Inherit, Null, End}
-use Rattle.duct_guard.specs.GuardView.{AddsAll, ClosesFirst}
 
 -- the first of two lists
 take_both : (n : ℕ) (xs ys : List ℕ)

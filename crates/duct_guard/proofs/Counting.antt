@@ -1,18 +1,7 @@
 -- A guard that noted one more entry.
 use Rattle.std.proofs.Common.{◌≡◌, refl, ap, sym, ◌∙◌, arith, ◌+◌, ◌-◌, ◌≤◌, ℕ, List, [], ◌∷◌, ◌++◌, length, Ok, Err, IfOk, OnOk, OnErr, Result}
 use Rattle.duct_system.specs.Child.{Answer}
-use Rattle.duct_system.specs.EntryView.{EntryView, Spawn, answer_of}
-use Rattle.duct_system.specs.Journal.{JournalView}
-use Rattle.duct_system.specs.Ledger.{opened_by, spent_by}
-use Rattle.duct_system.specs.SpecView.{SpecView}
-use Rattle.duct_system.specs.Streams.{ends_of}
-use Rattle.duct_system.specs.declared.system.Fault.{Fault}
-use Rattle.duct_system.specs.declared.system.Stdio.{Stdio}
-use Rattle.duct_system.specs.Started.{child_by}
-use Rattle.duct_guard.specs.Held.{IsCrew, Joins, Leaves, with_children, with_ends, with_entry, without_ends}
-use Rattle.duct_guard.specs.GuardView.{IsForwarded, Keeps}
-use Rattle.duct_guard.specs.Rules.{Rules}
-use Rattle.duct_guard.specs.declared.counts.Held.{Held}
+use Rattle.duct_guard.proofs.Common.{EntryView, Spawn, answer_of, JournalView, opened_by, spent_by, SpecView, ends_of, Fault, Stdio, child_by, IsCrew, Joins, Leaves, with_children, with_ends, with_entry, without_ends, IsForwarded, Keeps, Rules, Held}
 use Rattle.duct_guard.proofs.Holding.{begun_still, entry_is, none_started, one_counted}
 use Rattle.duct_guard.proofs.Crews.{crew_joined, crew_left, crew_same}
 use Rattle.duct_guard.proofs.Guarding.{OpensEnd, one_noted}

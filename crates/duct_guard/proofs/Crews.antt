@@ -1,16 +1,11 @@
 -- How the running children of a guard change.
-use Rattle.std.specs.List.{swap_remove}
+use Rattle.duct_guard.proofs.Common.{swap_remove, append-nil, get_or_default, length-map, ∥∥₁_map, ∥∥₁_map₂, ∥∥₁_elim, EntryView, child_by, children_in, HasEnded, HaveEnded, IsCrew, Joins, Leaves, held_after, with_entry, Held}
 use Rattle.std.specs.List.Sorted.{IsPermutation}
 use Rattle.std.proofs.Common.{◌≡◌, ap, sym, subst, ◌∙◌, arith, append_assoc, ◌+◌, ◌<◌, ◌≤◌, ℕ, List, [], ◌∷◌, ◌++◌, length, map, get_or}
-use Rattle.std.proofs.lemmas.List.{append-nil, get_or_default, length-append, length-map}
+use Rattle.std.proofs.lemmas.List.{length-append}
 use Rattle.std.proofs.lemmas.List.Sorted.{IsPermutation-append_comm, IsPermutation-append_left, IsPermutation-append_right, IsPermutation-map, IsPermutation-refl, IsPermutation-swap_remove, IsPermutation-trans, length_permutation}
-use mathlib.Core.Logic.{∥∥₁_map, ∥∥₁_map₂, ∥∥₁_elim}
 use Rattle.std.proofs.Math.Bridge.{le_prop}
 use Rattle.duct_system.specs.Child.{Answer}
-use Rattle.duct_system.specs.EntryView.{EntryView}
-use Rattle.duct_system.specs.Started.{child_by, children_in}
-use Rattle.duct_guard.specs.Held.{HasEnded, HaveEnded, IsCrew, Joins, Leaves, held_after, with_entry}
-use Rattle.duct_guard.specs.declared.counts.Held.{Held}
 use Rattle.duct_guard.proofs.Holding.{children_now}
 
 -- an element that was read twice

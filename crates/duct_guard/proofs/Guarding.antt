@@ -1,25 +1,11 @@
 -- What the journal below has when a guard notes one more entry, and what follows from it.
 use Rattle.std.proofs.Common.{◌≡◌, refl, ap, sym, subst, ◌∙◌, arith, append_assoc, ◌+◌, ◌≤◌, ◌⊎◌, inl, inr, ℕ, List, [], ◌∷◌, ◌++◌, Bool, true, false, ◌&&◌, ◌||◌, length, map, take, nat_le, Ok, Err, IfOk, IfErr, Some, Option, Result}
 use Rattle.std.proofs.lemmas.Bool.{and_parts}
-use Rattle.std.proofs.lemmas.List.{append-nil, length-take}
-use Rattle.std.proofs.lemmas.List.Folds.{list_all-append}
+use Rattle.duct_guard.proofs.Common.{append-nil, length-take, list_all-append, ∥∥₁_map, ∥∥₁_elim, EntryView, Environment, Pipe, Canonicalize, Spawn, Close, answer_of, JournalView, Adds, AddsNothing, GetsEnds, IsNew, IsRefused, opened_by, spent_by, SpecView, Vars, ends_of, Fault, Stdio, AreAllowed, AreDenied, Rules, canonicalize, is_allowed, is_denial, spawn, AddsAll, ClosesFirst, Crowded, Forwards, ForwardsAll, IsForwarded, LostPath, LostVars, Passed, Refused, allows_spawn, may_ask, refusal, GotEnd, asked_of, end_entry, child_by, held_after, is_within, with_entry, Held}
 use Rattle.std.proofs.Math.Nat.{le_refl}
 use mathlib.Core.Bool.{Bool-set}
-use mathlib.Core.Logic.{∥∥₁_map, ∥∥₁_elim}
-use Rattle.duct_system.specs.EntryView.{EntryView, Environment, Pipe, Canonicalize, Spawn, Close, answer_of}
-use Rattle.duct_system.specs.Journal.{JournalView, Adds, AddsNothing, GetsEnds, IsNew, IsRefused}
-use Rattle.duct_system.specs.Ledger.{opened_by, spent_by}
-use Rattle.duct_system.specs.SpecView.{SpecView, Vars}
-use Rattle.duct_system.specs.Streams.{ends_of}
 use Rattle.duct_system.specs.Trace.{fault_of}
-use Rattle.duct_system.specs.declared.system.Fault.{Fault}
 use Rattle.duct_system.specs.declared.system.Kind.{Kind}
-use Rattle.duct_system.specs.declared.system.Stdio.{Stdio}
-use Rattle.duct_guard.specs.Rules.{AreAllowed, AreDenied, Rules, canonicalize, is_allowed, is_denial, spawn}
-use Rattle.duct_guard.specs.GuardView.{AddsAll, ClosesFirst, Crowded, Forwards, ForwardsAll, IsForwarded, LostPath, LostVars, Passed, Refused, allows_spawn, may_ask, refusal, GotEnd, asked_of, end_entry}
-use Rattle.duct_system.specs.Started.{child_by}
-use Rattle.duct_guard.specs.Held.{held_after, is_within, with_entry}
-use Rattle.duct_guard.specs.declared.counts.Held.{Held}
 use Rattle.duct_guard.specs.declared.requests.EndRequest.{EndRequest}
 use Rattle.duct_guard.specs.declared.requests.EndRequest.TheVariants as asks
 

@@ -1,21 +1,11 @@
 -- What a guard holds after an entry, part by part, and that it never exceeds its policy's limits.
 use Rattle.std.proofs.Common.{◌≡◌, refl, ap, sym, subst, ◌∙◌, arith, ◌-◌, ◌≤◌, length-append, ℕ, Bool, List, [], ◌∷◌, ◌++◌, ◌+◌, ◌&&◌, true, false, length, nat_le, Ok, Err, OnOk, Some, if◌then◌else◌, Result}
 use Rattle.std.proofs.lemmas.Bool.{and_parts, leb-true}
-use Rattle.std.proofs.lemmas.List.{nil_from_length}
+use Rattle.duct_guard.proofs.Common.{nil_from_length, ∥∥₁_elim, EntryView, Pipe, OpenRead, Create, Duplicate, Parent, Spawn, opened_by, spent_by, ends_of, Fault, Rules, is_allowed, Forwards, Passed, Refused, Crowded, LostVars, LostPath, ForwardsAll, child_by, counts_of, started_by, with_children, with_ends, with_entry, held_after, is_within, Fits, AlwaysFits, without_end, without_ends, IsBegun, nothing_held, Held}
 use Rattle.std.proofs.Math.Bool.{and-true}
 use Rattle.std.proofs.Math.Bridge.{le_prop}
-use mathlib.Core.Logic.{∥∥₁_elim}
-use Rattle.duct_system.specs.EntryView.{EntryView, Pipe, OpenRead, Create, Duplicate, Parent, Spawn}
-use Rattle.duct_system.specs.Ledger.{opened_by, spent_by}
-use Rattle.duct_system.specs.Streams.{ends_of}
 use Rattle.duct_system.specs.Trace.{fault_of}
-use Rattle.duct_system.specs.declared.system.Fault.{Fault}
-use Rattle.duct_guard.specs.Rules.{Rules, is_allowed}
-use Rattle.duct_guard.specs.GuardView.{Forwards, Passed, Refused, Crowded, LostVars, LostPath, ForwardsAll}
-use Rattle.duct_system.specs.Started.{child_by}
-use Rattle.duct_guard.specs.Held.{counts_of, started_by, with_children, with_ends, with_entry, held_after, is_within, Fits, AlwaysFits, without_end, without_ends, IsBegun, nothing_held}
 use Rattle.duct_guard.specs.declared.counts.Counts.{Counts}
-use Rattle.duct_guard.specs.declared.counts.Held.{Held}
 
 opened_children : (held : Held) (numbers : List ℕ) → (with_ends held numbers).children ≡ held.children
 opened_children held [] = refl

@@ -1,3 +1,4 @@
+pub mod Common
 pub mod Below
 pub mod Closing
 pub mod Counting

@@ -1,8 +1,7 @@
 -- A test whether a list begins with another one, and a test of what is seen of a list.
-use Rattle.std.specs.List.{list_any, starts_with}
+use Rattle.duct_guard.proofs.Common.{list_any, starts_with, take-append-drop}
 use Rattle.std.proofs.Common.{◌≡◌, ap, refl, sym, ◌∙◌, ℕ, Bool, true, ◌||◌, List, [], ◌∷◌, ◌++◌, length, map, take, drop, bytes_eq}
 use Rattle.std.proofs.Math.Seq.{take-append_seam}
-use Rattle.std.proofs.lemmas.List.{take-append-drop}
 use Rattle.std.specs.Bool.{one_answer}
 use lib.Pointwise.{pointwise_decides, bytes_decides}
 

@@ -1,18 +1,14 @@
 -- A read or a run over a new guard: its journal is that of the whole call.
 use Rattle.std.proofs.Common.{ℕ, [], ◌≡◌, Ok, Err, IfOk, IfErr, inl, inr, arith, subst, Result}
 use Rattle.duct_base.specs.Pool.{PoolView}
-use Rattle.duct_system.specs.Journal.{JournalView}
+use Rattle.duct_guard.proofs.Common.{JournalView, IsCall, Launched, MadeBy, RunFailed, StartKind, IsBegun, nothing_held, FixedGuard, IsLeft, Held}
 use Rattle.duct_system.specs.declared.error.Error.{Error}
 use Rattle.duct_start.specs.Chain.{Allows, Refuses}
 use Rattle.duct_start.specs.Running.{RunningView}
 use Rattle.duct_start.specs.Start.{Grows}
 use Rattle.duct_system.specs.SystemViews.{SystemViews}
 use Rattle.duct_running.specs.Stored.{Bytes}
-use Rattle.duct.specs.Launched.{IsCall, Launched, MadeBy, RunFailed, StartKind}
 use Rattle.duct.specs.declared.expression.Expression.{Expression}
-use Rattle.duct_guard.specs.Held.{IsBegun, nothing_held}
-use Rattle.duct_guard.specs.Under.{FixedGuard, IsLeft}
-use Rattle.duct_guard.specs.declared.counts.Held.{Held}
 use Rattle.duct_guard.specs.declared.fixed.FixedRules as rules_trait
 use Rattle.duct_guard.specs.declared.policy.Policy as policy_trait
 use Rattle.duct_guard.specs.declared.under.Under.{Under}

@@ -1,14 +1,10 @@
 -- The numbers of what runs after a start are those in the journal.
 use Rattle.std.proofs.Common.{◌≡◌, refl, ap, ◌∙◌, ℕ, Bool, List, [], ◌∷◌, ◌++◌, is_some, map, Some, None, option_map, option_to_list, Option}
-use Rattle.duct_system.specs.Child.{ChildView}
+use Rattle.duct_handle.proofs.Common.{ChildView, shape_view, IsRunning, RunningView, NumbersView, numbers_in, HandleView}
 use Rattle.duct_system.specs.EntryView.{EntryView}
 use Rattle.duct_system.specs.Job.{JobView, unpolled_job}
 use Rattle.duct_system.specs.Started.{feeds_in, drains_in}
-use Rattle.duct_status.specs.ShapeView.{shape_view}
-use Rattle.duct_start.specs.Running.{IsRunning, RunningView}
 use Rattle.duct_start.specs.TreeView.{TreeView}
-use Rattle.duct_running.specs.NumbersView.{NumbersView, numbers_in}
-use Rattle.duct_handle.specs.HandleView.{HandleView}
 use Rattle.duct_handle.specs.Started.{AreIds, AreNumbers, IsHandle}
 
 twice : {X Y Z : Type 0} (f : X → Y) (g : Y → Z) (xs : List X)

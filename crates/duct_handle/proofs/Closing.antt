@@ -1,12 +1,6 @@
 -- A read without a token, and what has ended where it is at EOF.
 use Rattle.std.proofs.Common.{arith, inl, inr, ℕ, ◌≡◌, ◌<◌, Ok, Err, Result}
-use Rattle.duct_system.specs.declared.error.Error.{Error}
-use Rattle.duct_status.specs.ShapeView.{shape_view}
-use Rattle.duct_system.specs.SystemViews.{SystemViews}
-use Rattle.duct_running.specs.Answered.{IsAnswer}
-use Rattle.duct_running.specs.Polled.{Polled}
-use Rattle.duct_running.specs.Stored.{Bytes}
-use Rattle.duct_handle.specs.HandleView.{HandleView, SeenView}
+use Rattle.duct_handle.proofs.Common.{Error, shape_view, SystemViews, IsAnswer, Polled, Bytes, HandleView, SeenView}
 use Rattle.duct_handle.specs.Reads.{HasOutput, ReadsAs, ReadsOnce}
 
 -- what a read with a token returns, without what its token knows

@@ -1,24 +1,10 @@
 -- What a wait returns, by what its children and workers store.
 use Rattle.std.proofs.Common.{◌≡◌, ◌⊎◌, inl, inr, map, refl, subst, Ok, Err, Some, option_map, IfErr, IfOk, IsOkAnd, OnErr, Result, Global}
-use Rattle.std.specs.Arc.{arc_value}
-use Rattle.std.specs.declared.sync.Arc.{Arc}
-use Rattle.duct_base.specs.Pool.{PoolView}
-use Rattle.duct_system.specs.declared.error.Error.{Error}
+use Rattle.duct_handle.proofs.Common.{arc_value, Arc, PoolView, Error, Output, ReplyView, answered, failed, faulted, no_memory, noted, pending, unknown, shape_view, RunningView, SystemViews, StoresAllowed, IsConcluded, numbers_of, Gives, IsOutput, ReturnsOutcome, StaysSame, Bytes, stored_in, at_end}
 use Rattle.duct_system.specs.declared.error.Error.TheVariants as error
-use Rattle.duct_system.specs.declared.system.Output.{Output}
 use Rattle.duct_status.specs.Outcome.{Concludes}
-use Rattle.duct_status.specs.ReplyView.{ReplyView, answered, failed, faulted, no_memory, noted, pending, unknown}
-use Rattle.duct_status.specs.ShapeView.{shape_view}
-use Rattle.duct_start.specs.Running.{RunningView}
 use Rattle.duct_run.specs.Requested.{PoolGets}
-use Rattle.duct_system.specs.SystemViews.{SystemViews}
-use Rattle.duct_running.specs.Allowed.{StoresAllowed}
-use Rattle.duct_running.specs.Answered.{IsConcluded}
-use Rattle.duct_running.specs.NumbersView.{numbers_of}
-use Rattle.duct_running.specs.Polled.{Gives, IsOutput, ReturnsOutcome, StaysSame}
-use Rattle.duct_running.specs.Stored.{Bytes, stored_in}
 use Rattle.duct_handle.specs.Finished.{RanUntil, RanUntilGiven, StoresError, StoresReply}
-use Rattle.duct_handle.specs.Waited.{at_end}
 
 -- the reply that gives an output, of which this is a copy
 answered_reply : (reply : ReplyView) (output : Arc Output Global) (own : Output)

@@ -4,15 +4,10 @@ use Rattle.std.specs.Prelude.{ℕ, List, [], ◌∷◌, All, IfSome, MatchOption
 use Rattle.std.specs.List.{AllZip}
 use Rattle.std.proofs.Common.{◌≡◌, subst, inl, inr, Option, Result}
 use Rattle.std.proofs.lemmas.List.Elements.{All-head, All-tail}
-use mathlib.Core.Logic.{∥∥₁_map}
-use Rattle.duct_system.specs.Child.{ChildView, Obeyed, OrdersChild}
-use Rattle.duct_system.specs.declared.error.Error.{Error}
+use Rattle.duct_handle.proofs.Common.{∥∥₁_map, ChildView, Obeyed, OrdersChild, Error, SystemViews, ChildAnswersAllowed, IsObeyed, CommandAnswers}
 use Rattle.duct_system.specs.declared.system.ExitStatus.{ExitStatus}
 use Rattle.duct_system.specs.declared.system.Order.{Order}
-use Rattle.duct_system.specs.SystemViews.{SystemViews}
 use Rattle.duct_running.specs.Ordered.{AllOrdered, IsOrdered}
-use Rattle.duct_running.specs.Allowed.{ChildAnswersAllowed}
-use Rattle.duct_handle.specs.Obeyed.{IsObeyed, CommandAnswers}
 
 module _ {S E C F D V W : Type 0} (views : SystemViews S E C F D V W) (order : Order) where
   -- one command

@@ -1,17 +1,8 @@
 -- What a poll concluded says which answer is published.
-use Rattle.std.specs.Arc.{arc_value}
-use Rattle.std.specs.declared.sync.Arc.{Arc}
+use Rattle.duct_handle.proofs.Common.{arc_value, Arc, Answer, Output, ReplyView, noted, unknown, pending, faulted, answered, failed, no_memory, ShapeView, IsConcludedPoll, WasConcluded, NumbersView, Gives, Bytes}
 use Rattle.std.proofs.Common.{◌≡◌, sym, subst, inl, inr, ℕ, string_bytes, Ok, Err, Some, String, Global}
-use Rattle.duct_system.specs.Child.{Answer}
 use Rattle.duct_system.specs.declared.error.Error.TheVariants as error
-use Rattle.duct_system.specs.declared.system.Output.{Output}
 use Rattle.duct_system.specs.declared.system.Said.{Said}
-use Rattle.duct_status.specs.ReplyView.{ReplyView, noted, unknown, pending, faulted, answered, failed, no_memory}
-use Rattle.duct_status.specs.ShapeView.{ShapeView}
-use Rattle.duct_running.specs.Answered.{IsConcludedPoll, WasConcluded}
-use Rattle.duct_running.specs.NumbersView.{NumbersView}
-use Rattle.duct_running.specs.Polled.{Gives}
-use Rattle.duct_running.specs.Stored.{Bytes}
 
 gives_output : (reply : ReplyView) (output : Arc Output Global) → Gives reply (Ok (Some output))
     → reply ≡ answered (arc_value output).status (arc_value output).stdout.items (arc_value output).stderr.items

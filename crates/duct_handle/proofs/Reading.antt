@@ -1,21 +1,10 @@
 -- What is returned of a read that was waited for.
 use Rattle.std.proofs.Common.{◌≡◌, inl, inr, List, ℕ, subst, Ok, Err, Some, IfSome, IfErr, IsUtf8, Option, Result, String, Global}
 use Rattle.std.specs.declared.io.ErrorKind.{ErrorKind}
-use Rattle.std.specs.declared.sync.Arc.{Arc}
-use Rattle.duct_base.specs.Pool.{PoolView}
-use Rattle.duct_system.specs.declared.error.Error.{Error}
+use Rattle.duct_handle.proofs.Common.{Arc, PoolView, Error, Output, ReplyView, answered, failed, faulted, no_memory, noted, pending, unknown, shape_view, RunningView, SystemViews, StoresAllowed, Gives, ReturnsOutcome, StaysSame, Bytes, stored_in, EndsWell, FailsToRead, StopsReading, trimmed}
 use Rattle.duct_system.specs.declared.error.Error.TheVariants as error
-use Rattle.duct_system.specs.declared.system.Output.{Output}
 use Rattle.duct_status.specs.Outcome.{Concludes}
-use Rattle.duct_status.specs.ReplyView.{ReplyView, answered, failed, faulted, no_memory, noted, pending, unknown}
-use Rattle.duct_status.specs.ShapeView.{shape_view}
-use Rattle.duct_start.specs.Running.{RunningView}
 use Rattle.duct_run.specs.Requested.{PoolGets}
-use Rattle.duct_system.specs.SystemViews.{SystemViews}
-use Rattle.duct_running.specs.Allowed.{StoresAllowed}
-use Rattle.duct_running.specs.Polled.{Gives, ReturnsOutcome, StaysSame}
-use Rattle.duct_running.specs.Stored.{Bytes, stored_in}
-use Rattle.duct_handle.specs.ReadsText.{EndsWell, FailsToRead, StopsReading, trimmed}
 
 module _ {S E C F D : Type 0} (views : SystemViews S E C F D (Unit {0}) Bytes)
     (before after : RunningView C F D) where

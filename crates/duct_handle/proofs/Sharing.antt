@@ -1,20 +1,10 @@
 -- What is published was concluded, and one more owner of it has the same answer.
 use Rattle.std.proofs.Common.{◌≡◌, ap, refl, subst, sym, ◌∙◌, ℕ, IfSome, Ok, Err, Some, None, option_map, Option}
-use mathlib.Core.Logic.{∥∥₁_map}
+use Rattle.duct_handle.proofs.Common.{∥∥₁_map, Error, ShapeView, shape_view, SystemViews, Concluded, IsAnswer, WasConcluded, Polled, OneRuns, NumbersView, Bytes, answer_view, HandleView, PublishedView, SeenView, GivesAgain, IsNoEnding, KnowsIfEnded, Waited}
 use Rattle.duct_system.specs.Child as child
 use Rattle.duct_system.specs.declared.system.Said.{Said}
-use Rattle.duct_system.specs.declared.error.Error.{Error}
 use Rattle.duct_system.specs.declared.error.Error.TheVariants as error
-use Rattle.duct_status.specs.ShapeView.{ShapeView, shape_view}
 use Rattle.once_cell.specs.Once.{Agrees}
-use Rattle.duct_system.specs.SystemViews.{SystemViews}
-use Rattle.duct_running.specs.Answered.{Concluded, IsAnswer, WasConcluded}
-use Rattle.duct_running.specs.Polled.{Polled}
-use Rattle.duct_running.specs.Allowed.{OneRuns}
-use Rattle.duct_running.specs.NumbersView.{NumbersView}
-use Rattle.duct_running.specs.Stored.{Bytes}
-use Rattle.duct_handle.specs.HandleView.{answer_view, HandleView, PublishedView, SeenView}
-use Rattle.duct_handle.specs.Waited.{GivesAgain, IsNoEnding, KnowsIfEnded, Waited}
 use Rattle.duct_handle.specs.declared.published.Answer.{Answer}
 
 pub concluded : (answer : ℕ → child.Answer → Type 0) (feed : ℕ → Said (Unit {0}) → Type 0)

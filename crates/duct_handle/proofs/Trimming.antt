@@ -1,6 +1,6 @@
 -- What is left of a list, by its last byte.
 use Rattle.std.proofs.Common.{◌≡◌, refl, ap, ◌∙◌, ℕ, true, false, if◌then◌else◌, List, [], ◌∷◌, ◌++◌, length, take}
-use Rattle.duct_handle.specs.ReadsText.{before, is_line_end, trimmed}
+use Rattle.duct_handle.proofs.Common.{before, is_line_end, trimmed}
 
 -- a line end at the end is dropped
 pub trimmed_end : (front : List ℕ) (last : ℕ) → is_line_end last ≡ true

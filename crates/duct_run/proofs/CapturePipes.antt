@@ -1,13 +1,7 @@
 -- The two capture pipes once one of them is another one.
 use Rattle.std.proofs.Common.{◌≡◌, ℕ, ◌+◌, length, arith, length-append, None, Option}
-use Rattle.duct_system.specs.Ledger.{count_of}
-use Rattle.duct_system.specs.declared.system.Side.{Side}
+use Rattle.duct_run.proofs.Common.{count_of, Side, at_side, with_side, PerSide, ends_of_pipes, pipe_ends, no_pipes, count-append}
 use Rattle.duct_system.specs.declared.system.Side.TheVariants.{Out, Err}
-use Rattle.duct_status.specs.PerSide.{at_side, with_side}
-use Rattle.duct_status.specs.declared.per_side.PerSide.{PerSide}
-use Rattle.duct_run.specs.ResourcesView.{ends_of_pipes, pipe_ends}
-use Rattle.duct_start.specs.Plan.{no_pipes}
-use Rattle.duct_start.proofs.Counts.{count-append}
 
 -- what holds of both values of each side, still does with two new values for one side
 pub each_with : {A B : Type 0} (R : A → B → Type 0) (xs : PerSide A) (ys : PerSide B) (which : Side)

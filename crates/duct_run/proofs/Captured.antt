@@ -1,27 +1,9 @@
 -- The capture pipes: each is opened once, and at the end its write end is closed and its read end
 -- is passed on.
 use Rattle.std.proofs.Common.{◌≡◌, ◌≢◌, ℕ, ◌≤◌, List, [], ◌∷◌, ◌++◌, length, refl, ap, sym, ◌∙◌, arith, subst, length-append, inl, inr, Some, None, Ok, Err, is_some, true, false, if◌then◌else◌, unwrap_or, Option}
-use Rattle.std.proofs.lemmas.List.{append-nil}
-use Rattle.duct_system.specs.EntryView.{EntryView, Pipe, Drain, Close}
-use Rattle.duct_system.specs.Journal.{JournalView, GetsEnds, GivesEnds, IsRefused}
-use Rattle.duct_system.specs.Ledger.{count_of}
-use Rattle.duct_system.specs.Origin.{Opened, origin}
-use Rattle.duct_system.specs.Trace.{trace}
-use Rattle.duct_system.specs.declared.error.Error.TheVariants.{System}
-use Rattle.duct_system.specs.declared.system.Fault.{Fault}
-use Rattle.duct_system.specs.declared.system.Side.{Side}
-use Rattle.duct_status.specs.PerSide.{at_side, with_side}
+use Rattle.duct_run.proofs.Common.{append-nil, EntryView, Pipe, Drain, Close, JournalView, GetsEnds, GivesEnds, IsRefused, count_of, Opened, origin, trace, System, Fault, Side, at_side, with_side, State, advance, end_at, Allows, ReaderAt, ResourcesView, ends_of_pipes, pipe_ends, with_drain, RunContext, IsEarly, IsLater, IsPair, RunInvariant, StopInvariant, ActionSucceeds, ActionFails, Item, AskPipe, AskDrain, is_itself, other_than, count_other, count-cons, count-append}
 use Rattle.duct_run.specs.Actions as action
-use Rattle.duct_run.specs.Actions.{State, advance}
-use Rattle.duct_start.specs.Asked.{end_at}
-use Rattle.duct_start.specs.Chain.{Allows}
-use Rattle.duct_start.specs.Surroundings.{ReaderAt}
-use Rattle.duct_run.specs.ResourcesView.{ResourcesView, ends_of_pipes, pipe_ends}
-use Rattle.duct_start.specs.Plan.{with_drain}
-use Rattle.duct_run.specs.RunInvariant.{RunContext, IsEarly, IsLater, IsPair, RunInvariant, StopInvariant, ActionSucceeds, ActionFails}
-use Rattle.duct_start.specs.Step.{Item, AskPipe, AskDrain}
 use Rattle.duct_run.proofs.Fresh.{fresh_two, fresh_none}
-use Rattle.duct_start.proofs.Counts.{is_itself, other_than, count_other, count-cons, count-append}
 use Rattle.duct_run.proofs.Going.{none_changes, plain_changes, pop_changes, opened_here}
 use Rattle.duct_run.proofs.CapturePipes.{counts_with, each_with, length_with}
 use Rattle.duct_run.proofs.Sources.{surely}

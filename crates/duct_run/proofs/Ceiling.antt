@@ -1,9 +1,6 @@
 -- The least number above the numbers of a tree's ends.
 use Rattle.std.proofs.Common.{ℕ, ◌+◌, ◌<◌, ◌≤◌, List, [], ◌∷◌, arith, max, All}
-use Rattle.std.proofs.lemmas.List.Elements.{All-nil, All-cons, All-head, All-tail}
-use Rattle.duct_system.specs.Journal.{JournalView}
-use Rattle.duct_start.specs.Start.{AreEarlier, ends_in}
-use Rattle.duct_start.specs.TreeView.{TreeView}
+use Rattle.duct_run.proofs.Common.{All-nil, All-cons, All-head, All-tail, JournalView, AreEarlier, ends_in, TreeView}
 
 -- the least number above the numbers of some ends
 abbrev pub least_above : {E : Type 0} → (E → ℕ) → List E → ℕ

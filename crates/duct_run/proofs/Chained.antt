@@ -1,19 +1,8 @@
 -- A chain of hooks over targets is also a chain of hooks over the origins of these targets.
 use Rattle.std.proofs.Common.{◌≡◌, ℕ, inl, inr, List, [], ◌∷◌, refl, ap, sym, ◌∙◌, None, Some, map, slice_get, option_map, Option}
-use Rattle.std.proofs.lemmas.List.{length-map}
-use Rattle.std.proofs.lemmas.Option.{slice_get-map}
-use Rattle.duct_system.specs.EntryView.{EntryView}
-use Rattle.duct_system.specs.Origin.{Lent}
-use Rattle.duct_system.specs.SpecView.{SpecView}
-use Rattle.duct_system.specs.Streams.{stream_of}
-use Rattle.duct_system.specs.declared.error.Error.{Error}
+use Rattle.duct_run.proofs.Common.{length-map, slice_get-map, EntryView, Lent, SpecView, stream_of, Error, Port, Stdio, Allows, Refuses, HooksChange, HooksStop, HookChanges, HookStops, SpecWithStreams, end_of_place, hooks_by_origin, missing_place, after_hook, stream_after_hook, hooks_by_target, Lends}
 use Rattle.duct_system.specs.declared.error.Error.TheVariants as error
-use Rattle.duct_system.specs.declared.spec.Port.{Port}
 use Rattle.duct_system.specs.declared.spec.Port.TheVariants as port
-use Rattle.duct_system.specs.declared.system.Stdio.{Stdio}
-use Rattle.duct_start.specs.Chain.{Allows, Refuses, HooksChange, HooksStop, HookChanges, HookStops, SpecWithStreams, end_of_place, hooks_by_origin, missing_place, after_hook, stream_after_hook}
-use Rattle.duct_run.specs.Commands.{hooks_by_target}
-use Rattle.duct_start.specs.Surroundings.{Lends}
 use Rattle.duct_run.proofs.Wires.{origin_of}
 
 module _ {O P : Type 0} (f : O → P) where

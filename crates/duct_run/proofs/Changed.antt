@@ -1,18 +1,15 @@
 -- Variables that are made of pairs, inserted or removed, and what a look-up finds in them.
 use Rattle.std.specs.declared.cmp.Ordering.TheVariants.{Less}
-use Rattle.std.specs.BTreeMap.{insert_entry, is_at}
+use Rattle.duct_run.proofs.Common.{insert_entry, is_at, map-append, Vars, AreOrdered, pair_text, said_of, spelled, var_view, variable_in, insert_var, are_ordered, VariableChange, Removes, Replaces, variable}
 use Rattle.std.specs.List.{AllByRecursion, AllZip}
 use Rattle.std.specs.List.Sorted.{IsStrictlySortedBy}
 use Rattle.std.specs.Map.{keys_of, remove_entry}
 use Rattle.std.specs.Ordering.{is_eq}
 use Rattle.std.proofs.Common.{Option, ◌≡◌, refl, ap, sym, ◌∙◌, Bool, true, false, ℕ, List, [], ◌∷◌, ◌++◌, cond, map, string_bytes, Some, None, String}
-use Rattle.std.proofs.lemmas.List.{map-append}
 use Rattle.std.proofs.lemmas.Map.{NonePasses}
 use Rattle.duct_system.specs.Name.{is_same_name, name_cmp}
-use Rattle.duct_system.specs.SpecView.{Vars, AreOrdered, pair_text, said_of, spelled, var_view, variable_in}
-use Rattle.duct_system.proofs.Entries.{insert_var, are_ordered}
 use Rattle.duct_system.proofs.Variables.{name_equiv, name_ties, none_there, same_at, variable_in-with, said_of-more}
-use Rattle.duct_start.specs.Surroundings.{VariableChange, Sets, Removes, Replaces, variable}
+use Rattle.duct_start.specs.Surroundings.{Sets}
 
 -- a look-up of a name in these variables finds what these pairs have for it
 abbrev pub FindsSaid : {Z : Type 0} → List (List ℕ × String Z) → Vars → Type 0

@@ -1,23 +1,6 @@
 -- The hooks of a command, one after the other.
 use Rattle.std.proofs.Common.{◌≡◌, ℕ, inl, inr, ◌+◌, ◌<◌, ◌≤◌, List, [], ◌∷◌, ◌++◌, length, refl, ap, sym, ◌∙◌, arith, subst, append_assoc, length-append, All, None, Some, map}
-use Rattle.std.proofs.lemmas.List.{append-nil, length-map, map-append}
-use Rattle.std.proofs.lemmas.List.Elements.{All-head}
-use Rattle.duct_system.specs.Journal.{JournalView}
-use Rattle.duct_system.specs.SpecView.{SpecView}
-use Rattle.duct_system.specs.Streams.{end_of}
-use Rattle.duct_system.specs.declared.error.Error.{Error}
-use Rattle.duct_system.specs.declared.error.Error.TheVariants.{Hook, HookEnd}
-use Rattle.duct_system.specs.declared.spec.Port.{Port}
-use Rattle.duct_system.specs.declared.system.Fault.{Fault}
-use Rattle.duct_system.specs.declared.system.Stdio.{Stdio}
-use Rattle.duct_system.specs.declared.system.Stdio.TheVariants.{Inherit, Null, End}
-use Rattle.duct_run.specs.Actions.{AreBelow, State, PerStream}
-use Rattle.duct_start.specs.Chain.{Allows, Refuses, HooksChange, HooksStop, HookChanges, HookMakes, HookStops, SpecWithStreams, resolved_port, missing_place, after_hook, stream_after_hook}
-use Rattle.duct_run.specs.Commands.{HooksSucceed, AreAlike, HooksFail, StopsAmongHooks, StoppedByHook, IsAlike, RedirectSucceeds, HooksInvariant, FailsWithoutHook, RedirectFails, stack_with_streams, resources_with_stack, hooks_by_target, streams_in, with_stack}
-use Rattle.duct_run.specs.Flat.{with_error, with_input, with_output}
-use Rattle.duct_start.specs.Surroundings.{Target, Lends}
-use Rattle.duct_run.specs.ResourcesView.{ResourcesView}
-use Rattle.duct_run.specs.RunInvariant.{RunContext, RunInvariant}
+use Rattle.duct_run.proofs.Common.{append-nil, length-map, map-append, All-head, JournalView, SpecView, end_of, Error, Hook, HookEnd, Port, Fault, Stdio, Inherit, Null, End, AreBelow, State, PerStream, Allows, Refuses, HooksChange, HooksStop, HookChanges, HookMakes, HookStops, SpecWithStreams, resolved_port, missing_place, after_hook, stream_after_hook, HooksSucceed, AreAlike, HooksFail, StopsAmongHooks, StoppedByHook, IsAlike, RedirectSucceeds, HooksInvariant, FailsWithoutHook, RedirectFails, stack_with_streams, resources_with_stack, hooks_by_target, streams_in, with_stack, with_error, with_input, with_output, Target, Lends, ResourcesView, RunContext, RunInvariant}
 use Rattle.duct_run.proofs.Joined.{all_front, all_back}
 
 few_ends : {A : Type 0} (stream : Stdio A) → length (end_of stream) ≤ 1

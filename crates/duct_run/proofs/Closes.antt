@@ -1,9 +1,6 @@
 -- Ends that are closed one after the other.
 use Rattle.std.proofs.Common.{ℕ, List, [], ◌∷◌, ◌++◌, ap, sym, ◌∙◌, arith, append_assoc, length-append, map}
-use Rattle.std.proofs.lemmas.List.{append-nil, map-append}
-use Rattle.duct_system.specs.EntryView.{EntryView, Close}
-use Rattle.duct_system.specs.Journal.{JournalView, GivesEnds}
-use Rattle.duct_run.specs.GivesUp.{Closes}
+use Rattle.duct_run.proofs.Common.{append-nil, map-append, EntryView, Close, JournalView, GivesEnds, Closes}
 
 -- nothing was closed
 pub closes_none : (now : JournalView) → Closes [] now now

@@ -1,32 +1,9 @@
 -- A run that failed, and then closed all ends that it held, is a start that fails.
 use Rattle.std.proofs.Common.{◌≡◌, ℕ, zero, suc, inl, inr, ◌+◌, ◌*◌, ◌-◌, ◌≤◌, List, [], ◌∷◌, ◌++◌, length, refl, ap, sym, ◌∙◌, arith, subst, append_assoc, length-append, false, map, not, slice_get, take, Some, None, option_and_then, Option}
-use Rattle.std.proofs.lemmas.Bool.{cases_lt}
-use Rattle.std.proofs.lemmas.List.{append-nil, take-append-le}
-use Rattle.std.proofs.lemmas.List.Elements.{filter-append}
-use Rattle.std.proofs.lemmas.Grind.{flat_map-append}
+use Rattle.duct_run.proofs.Common.{cases_lt, append-nil, take-append-le, filter-append, flat_map-append, EntryView, Environment, Pipe, OpenRead, Create, Duplicate, Parent, Canonicalize, Spawn, Feed, Drain, Reader, Close, JournalView, IsBalanced, opened_numbers, spent_numbers, open_count, count_of, children_in, child_by, segment, trace, is_close, IsClean, fault_of, StopsAtFault, Error, System, Checked, NotUtf8, Hook, HookEnd, Deadline, Memory, Fault, IsCausedOrMemory, ReturnsLastFault, StoppedBy, asked_in, last_fault, Allows, Refuses, Closes, StoppedWithCause, AsksPlan, Follows, ResourcesView, open_ends, Plan, AnswersUnder, RunContext, StopReason, OpenEndsWithin, IsEarly, IsHookError, IsLater, IsAllocationFailure, unasked, hooked, refused, AreEarlier, GotNew, KeepsFewOpen, StartRefused, depth, Item, TreeView, opened_numbers-append, spent_numbers-append, trace-append, count_got-append, count_spent-append}
 use Rattle.std.proofs.Math.Seq.{take-append-add, take-length}
-use Rattle.duct_system.specs.EntryView.{EntryView, Environment, Pipe, OpenRead, Create, Duplicate, Parent, Canonicalize, Spawn, Feed, Drain, Reader, Close}
-use Rattle.duct_system.specs.Journal.{JournalView}
-use Rattle.duct_system.specs.Ledger.{IsBalanced, opened_numbers, spent_numbers, open_count, count_of}
-use Rattle.duct_system.specs.Started.{children_in, child_by}
-use Rattle.duct_system.specs.Trace.{segment, trace, is_close, IsClean, fault_of, StopsAtFault}
-use Rattle.duct_system.specs.declared.error.Error.{Error}
-use Rattle.duct_system.specs.declared.error.Error.TheVariants.{System, Checked, NotUtf8, Hook, HookEnd, Deadline, Memory}
-use Rattle.duct_system.specs.declared.system.Fault.{Fault}
-use Rattle.duct_start.specs.Causes.{IsCausedOrMemory, ReturnsLastFault, StoppedBy, asked_in, last_fault}
-use Rattle.duct_start.specs.Chain.{Allows, Refuses}
-use Rattle.duct_run.specs.GivesUp.{Closes}
-use Rattle.duct_run.specs.Commands.{StoppedWithCause}
-use Rattle.duct_start.specs.Follows.{AsksPlan, Follows}
-use Rattle.duct_run.specs.ResourcesView.{ResourcesView, open_ends}
-use Rattle.duct_start.specs.Plan.{Plan}
-use Rattle.duct_run.specs.RunInvariant.{AnswersUnder, RunContext, StopReason, OpenEndsWithin, IsEarly, IsHookError, IsLater, IsAllocationFailure, unasked, hooked, refused}
-use Rattle.duct_start.specs.Start.{AreEarlier, GotNew, KeepsFewOpen, StartRefused, depth}
 use Rattle.duct_run.proofs.Ceiling.{ceiling, ceiling_low}
-use Rattle.duct_start.specs.Step.{Item}
-use Rattle.duct_start.specs.TreeView.{TreeView}
 use Rattle.duct_run.proofs.Stopping.{ended_stops}
-use Rattle.duct_start.proofs.Origins.{opened_numbers-append, spent_numbers-append, trace-append, count_got-append, count_spent-append}
 use Rattle.duct_run.proofs.Sources.{exactly_answered, plan_asked}
 use Rattle.duct_run.proofs.Whole.{segment_is, grows_by_added}
 

@@ -1,32 +1,9 @@
 -- A command as a whole: its canonical path, its hooks and its spawn.
 use Rattle.std.proofs.Common.{◌≡◌, ℕ, ◌+◌, ◌-◌, ◌≤◌, List, [], ◌∷◌, ◌++◌, length, refl, ap, sym, ◌∙◌, arith, subst, append_assoc, length-append, Bool, true, false, Err, Ok, Some, if◌then◌else◌, slice_get}
-use Rattle.duct_system.specs.EntryView.{EntryView, Canonicalize, Spawn}
-use Rattle.duct_system.specs.Journal.{JournalView, AddsNothing, Asks, GivesEnds, IsRefused}
-use Rattle.duct_system.specs.Ledger.{spent_by}
-use Rattle.duct_system.specs.SpecView.{SpecView, Vars}
-use Rattle.duct_system.specs.Trace.{trace}
-use Rattle.duct_system.specs.declared.error.Error.{Error}
-use Rattle.duct_system.specs.declared.error.Error.TheVariants.{System}
+use Rattle.duct_run.proofs.Common.{EntryView, Canonicalize, Spawn, JournalView, AddsNothing, Asks, GivesEnds, IsRefused, spent_by, SpecView, Vars, trace, Error, System, Port, Stream, Fault, Stdio, Action, Scope, State, PerStream, surroundings_by, stack_after_ports, port_end_count, port_in, IsAsked, port_to, Allows, Refuses, SpecWithStreams, HooksSucceed, HooksFail, ActionSucceedsWith, NameSucceeds, ActionFailsWith, HooksInvariant, stack_with_streams, resources_with_stack, asks_canonical_path, after_canonical_path, program_in, port_streams, with_stack, text_in, Target, target_of, ResourcesView, with_item, program_of, Pairwise, RunContext, IsEarly, IsFrom, IsHookError, IsAllocationFailure, ActionFails, RunInvariant, Item, AskCanonicalize, AskSpawn, items_if, items_of, commanded_is, trace-append}
 use Rattle.duct_system.specs.declared.error.Error.TheVariants as error
-use Rattle.duct_system.specs.declared.spec.Port.{Port}
-use Rattle.duct_system.specs.declared.spec.Stream.{Stream}
-use Rattle.duct_system.specs.declared.system.Fault.{Fault}
-use Rattle.duct_system.specs.declared.system.Stdio.{Stdio}
 use Rattle.duct_run.specs.Actions as action
-use Rattle.duct_run.specs.Actions.{Action, Scope, State, PerStream, surroundings_by, stack_after_ports, port_end_count, port_in}
-use Rattle.duct_start.specs.Asked.{IsAsked, port_to}
-use Rattle.duct_start.specs.Chain.{Allows, Refuses, SpecWithStreams}
-use Rattle.duct_run.specs.Commands.{HooksSucceed, HooksFail, ActionSucceedsWith, NameSucceeds, ActionFailsWith, HooksInvariant, stack_with_streams, resources_with_stack, asks_canonical_path, after_canonical_path, program_in, port_streams, with_stack}
-use Rattle.duct_start.specs.Follows.{text_in}
-use Rattle.duct_start.specs.Surroundings.{Target, target_of}
-use Rattle.duct_run.specs.ResourcesView.{ResourcesView}
-use Rattle.duct_start.specs.Plan.{with_item, program_of}
-use Rattle.duct_start.specs.Sources.{Pairwise}
-use Rattle.duct_run.specs.RunInvariant.{RunContext, IsEarly, IsFrom, IsHookError, IsAllocationFailure, ActionFails, RunInvariant}
-use Rattle.duct_start.specs.Step.{Item, AskCanonicalize, AskSpawn}
-use Rattle.duct_start.proofs.Commanded.{items_if, items_of, commanded_is}
 use Rattle.duct_run.proofs.Going.{none_changes, memory_fails, quits_none}
-use Rattle.duct_start.proofs.Origins.{trace-append}
 use Rattle.duct_run.proofs.Redirecting.{split_second}
 use Rattle.duct_run.proofs.Spawning.{halts_refused, onwards, plain_refused, spawn_succeeds, spawn_fails, invariant_back, invariant_onwards, stopped_back}
 use Rattle.duct_run.proofs.Stacks.{get_seam}

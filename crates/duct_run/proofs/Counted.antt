@@ -2,38 +2,14 @@
 -- A capture pipe is open if a node of the tree opens it.
 use Rattle.std.proofs.Common.{◌≡◌, ℕ, ◌+◌, List, [], ◌∷◌, ◌++◌, length, refl, ap, sym, ◌∙◌, arith, Bool, true, false, Some, None, Ok, is_some, if◌then◌else◌, ◌||◌, map, Option}
 use Rattle.std.specs.Prelude as std
-use Rattle.std.proofs.lemmas.List.{map-append}
+use Rattle.duct_run.proofs.Common.{map-append, EntryView, Spawn, Feed, JournalView, children_in, feeds_in, trace, IsClean, Stream, In, Side, at_side, Action, ActionOf, NoneFinishes, Scope, State, PerStream, advance, after_actions, captures_in, surroundings_by, is_capture, with_capture_finished, with_plan, tail_for, tree_for, StartKind, Draining, Reading, capture_place, Plan, with_item, initial_plan, with_command, with_drain, is_canonical, with_opening, place_for, plan_of_subtree, with_reader, Allows, StreamSource, parents, nothing, slot, captured, lent, source_actions, with_input, with_output, actions_of_subtree, actions_of, depth_inside, ports_at, root_scope, root_sources, scope_if, sources_inside, actions_around, Surroundings, ResourcesView, list_of, resolved, resolved_all, scopes_from, ItemKind, of_spawn, of_feed, of_other, entry_kind, item_kind, spawns, feeds, spawns_asked, feeds_asked, Path, left_of, right_of, within, surroundings_on, RunContext, RunInvariant, RowOpening, opens_nothing, opens_input, opens_read, opens_create, opens_capture, row, Item, AskPipe, opening_of, step, ModifierView, TreeView, command, pipe, around, stdin_bytes, unchecked, items_if, items_of, commanded_is, with_items}
 use Rattle.std.proofs.Math.Bool.{or_assoc, or-false}
-use Rattle.duct_system.specs.EntryView.{EntryView, Spawn, Feed}
-use Rattle.duct_system.specs.Journal.{JournalView}
-use Rattle.duct_system.specs.Started.{children_in, feeds_in}
-use Rattle.duct_system.specs.Trace.{trace, IsClean}
-use Rattle.duct_system.specs.declared.spec.Stream.{Stream}
-use Rattle.duct_system.specs.declared.spec.Stream.TheVariants.{In, Out, Err}
-use Rattle.duct_system.specs.declared.system.Side.{Side}
+use Rattle.duct_system.specs.declared.spec.Stream.TheVariants.{Out, Err}
 use Rattle.duct_system.specs.declared.system.Side.TheVariants as side
 use Rattle.duct_status.specs.ShapeView.{ShapeView, command_count, input_count}
-use Rattle.duct_status.specs.PerSide.{at_side}
 use Rattle.duct_run.specs.Actions as action
-use Rattle.duct_run.specs.Actions.{Action, ActionOf, NoneFinishes, Scope, State, PerStream, advance, after_actions, captures_in, surroundings_by, is_capture, with_capture_finished, with_plan}
-use Rattle.duct_run.specs.RunContract.{tail_for, tree_for}
-use Rattle.duct_run.specs.declared.start.StartKind.{StartKind}
-use Rattle.duct_run.specs.declared.start.StartKind.TheVariants.{Draining, Reading}
-use Rattle.duct_start.specs.Plan.{capture_place, Plan, with_item, initial_plan, with_command, with_drain, is_canonical, with_opening, place_for, plan_of_subtree, with_reader}
-use Rattle.duct_start.specs.Chain.{Allows}
-use Rattle.duct_run.specs.Flat.{StreamSource, parents, nothing, slot, captured, lent, source_actions, with_input, with_output, actions_of_subtree, actions_of, depth_inside, ports_at, root_scope, root_sources, scope_if, sources_inside, actions_around}
-use Rattle.duct_start.specs.Surroundings.{Surroundings}
-use Rattle.duct_run.specs.ResourcesView.{ResourcesView}
-use Rattle.duct_run.specs.ActionList.{list_of, resolved, resolved_all, scopes_from}
-use Rattle.duct_run.specs.Kinds.{ItemKind, of_spawn, of_feed, of_other, entry_kind, item_kind, spawns, feeds, spawns_asked, feeds_asked}
-use Rattle.duct_start.specs.Lookup.{Path, left_of, right_of, within, surroundings_on}
 use Rattle.duct_start.specs.ShapeOfTree.{shape_around, shape_of_tree}
-use Rattle.duct_run.specs.RunInvariant.{RunContext, RunInvariant}
 use Rattle.duct_run.proofs.Ceiling.{ceiling, ends_below}
-use Rattle.duct_start.specs.Row.{RowOpening, opens_nothing, opens_input, opens_read, opens_create, opens_capture, row}
-use Rattle.duct_start.specs.Step.{Item, AskPipe, opening_of, step}
-use Rattle.duct_start.specs.TreeView.{ModifierView, TreeView, command, pipe, around, stdin_bytes, unchecked}
-use Rattle.duct_start.proofs.Commanded.{items_if, items_of, commanded_is, with_items}
 use Rattle.duct_run.proofs.Joined.{tree_leads}
 use Rattle.duct_run.proofs.Resolved.{list_resolves}
 

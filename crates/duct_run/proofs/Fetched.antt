@@ -1,16 +1,10 @@
 -- A command fetches the ends that its streams are wired to, and is spawned with them.
 use Rattle.std.proofs.Common.{◌≡◌, ℕ, ◌+◌, ◌≤◌, ◌<◌, List, [], ◌∷◌, length, refl, ap, sym, ◌∙◌, arith, subst, Bool, true, false, Some, IsSome, unwrap_or}
-use Rattle.duct_start.specs.Asked.{port_to}
-use Rattle.duct_system.specs.declared.spec.Port.{Port}
+use Rattle.duct_run.proofs.Common.{port_to, Port, Stream, In, Action, Scope, State, PerStream, Leads, advance, port_in, at_depth, stream_target, stack_after_port, port_end_count, stack_after_ports, surroundings_by, StreamSource, source_actions, port_at, ports_at, command_actions, SourceLeadsTo, is_stdin, is_in, is_out, is_err, is_nothing, is_slot, is_captured, is_lent, IsGot, SourcesFit, Surroundings, Target, Parents, Nothing, ReaderAt, WriterAt, FileAt, Lends, target_of, Plan, with_command}
 use Rattle.duct_system.specs.declared.spec.Port.TheVariants as port
 use Rattle.duct_system.specs.declared.system.Side.TheVariants as side
-use Rattle.duct_system.specs.declared.spec.Stream.{Stream}
-use Rattle.duct_system.specs.declared.spec.Stream.TheVariants.{In, Out, Err}
+use Rattle.duct_system.specs.declared.spec.Stream.TheVariants.{Out, Err}
 use Rattle.duct_run.specs.Actions as action
-use Rattle.duct_run.specs.Actions.{Action, Scope, State, PerStream, Leads, advance, port_in, at_depth, stream_target, stack_after_port, port_end_count, stack_after_ports, surroundings_by}
-use Rattle.duct_run.specs.Flat.{StreamSource, source_actions, port_at, ports_at, command_actions, SourceLeadsTo, is_stdin, is_in, is_out, is_err, is_nothing, is_slot, is_captured, is_lent, IsGot, SourcesFit}
-use Rattle.duct_start.specs.Surroundings.{Surroundings, Target, Parents, Nothing, ReaderAt, WriterAt, FileAt, Lends, target_of}
-use Rattle.duct_start.specs.Plan.{Plan, with_command}
 use Rattle.duct_run.proofs.Keeping.{Keeps, keeps_same}
 use Rattle.duct_run.proofs.Stacks.{level_under, level_within, leads_none, leads_one, leads_append}
 

@@ -1,12 +1,7 @@
 -- Numbers that a request got, which are new: none, one or two.
 use Rattle.std.proofs.Common.{◌≢◌, ℕ, ◌<◌, ◌≤◌, [], ◌∷◌, refl, arith, List, ap}
 use Rattle.std.proofs.lemmas.Bool.Decides.{nat_tests}
-use Rattle.duct_run.specs.RunInvariant.{AreFresh, RunContext, IsLater}
-use Rattle.duct_start.proofs.Counts.{count-cons, count_le, count_other}
-use Rattle.std.proofs.lemmas.List.{append-nil}
-use Rattle.duct_system.specs.Ledger.{opened_by, count_of}
-use Rattle.duct_system.specs.EntryView.{EntryView}
-use Rattle.duct_start.proofs.Origins.{count_got-append}
+use Rattle.duct_run.proofs.Common.{AreFresh, RunContext, IsLater, count-cons, count_le, count_other, append-nil, opened_by, count_of, EntryView, count_got-append}
 
 pub fresh_none : (next then : ℕ) → next ≤ then → AreFresh next then []
 fresh_none next then le = record { newer = le; once = λ n. omega arith; above = λ n lt. refl; below = λ n lt. refl }

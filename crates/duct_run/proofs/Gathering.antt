@@ -1,12 +1,7 @@
 -- Changes of variables: collected with the nearest first, then applied with the furthest first.
-use Rattle.std.specs.Option.{option_or}
+use Rattle.duct_run.proofs.Common.{option_or, BTreeMap, append-nil, map-append, Vars, said_of, var_view, variable_in, VariableChange, Replaces, variable, change_of, changes_of, whole_of}
 use Rattle.std.specs.Borrow.{Bor}
-use Rattle.std.specs.BTreeMap.{BTreeMap}
 use Rattle.std.proofs.Common.{Global, ◌≡◌, refl, ap, sym, ◌∙◌, append_assoc, ℕ, List, [], ◌∷◌, ◌++◌, map, is_some, true, Some, None, Option, String}
-use Rattle.std.proofs.lemmas.List.{append-nil, map-append}
-use Rattle.duct_system.specs.SpecView.{Vars, said_of, var_view, variable_in}
-use Rattle.duct_start.specs.Surroundings.{VariableChange, Replaces, variable}
-use Rattle.duct_run.specs.Settings.{change_of, changes_of, whole_of}
 use Rattle.duct_run.specs.declared.variables.VariableChange as declared
 use Rattle.duct_run.specs.declared.variables.Changes.{Changes}
 use Rattle.duct_run.proofs.Changed.{found_behind}

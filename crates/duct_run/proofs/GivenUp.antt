@@ -1,29 +1,10 @@
 -- A run that failed and gave up what it held is a start that failed and left its children to the
 -- pool.
 use Rattle.std.proofs.Common.{◌≡◌, ℕ, ◌+◌, ◌*◌, ◌≤◌, List, [], length, arith, length-append, map, reverse}
-use Rattle.std.proofs.lemmas.List.{length-reverse}
-use Rattle.duct_base.specs.Pool.{PoolView, IsGiven}
-use Rattle.duct_system.specs.Child.{Answer, ChildView}
-use Rattle.duct_system.specs.Job.{JobView}
-use Rattle.duct_system.specs.Journal.{JournalView}
-use Rattle.duct_system.specs.Ledger.{count_of}
-use Rattle.duct_system.specs.Trace.{segment}
-use Rattle.duct_system.specs.declared.error.Error.{Error}
-use Rattle.duct_start.specs.Chain.{Allows, Refuses}
-use Rattle.duct_run.specs.GivesUp.{Closes}
-use Rattle.duct_run.specs.Commands.{StoppedWithCause}
-use Rattle.duct_run.specs.ResourcesView.{ResourcesView, open_ends, ends_of_pipes, AreNew, resources_view, ends_of_resources}
-use Rattle.duct_start.specs.Left.{Leaves, LeavesStarted, pool_view}
-use Rattle.duct_start.specs.Plan.{Plan}
-use Rattle.duct_run.specs.RunInvariant.{RunContext}
-use Rattle.duct_start.specs.Start.{StartRefused, depth}
+use Rattle.duct_run.proofs.Common.{length-reverse, PoolView, IsGiven, Answer, ChildView, JobView, JournalView, count_of, segment, Error, Allows, Refuses, Closes, StoppedWithCause, ResourcesView, open_ends, ends_of_pipes, AreNew, resources_view, ends_of_resources, Leaves, LeavesStarted, pool_view, Plan, RunContext, StartRefused, depth, Item, TreeView, count-append, count-reverse, Resources}
 use Rattle.duct_run.proofs.Ceiling.{ceiling}
-use Rattle.duct_start.specs.Step.{Item}
-use Rattle.duct_start.specs.TreeView.{TreeView}
 use Rattle.duct_run.proofs.Closing.{refused_closed, refused_children, refused_room}
-use Rattle.duct_start.proofs.Counts.{count-append, count-reverse}
 use Rattle.duct_run.proofs.Leaving.{leaves_started}
-use Rattle.duct_run.specs.declared.resources.Resources.{Resources}
 
 module _ {E H C F D V W : Type 0} (allows : Allows H) (refuses : Refuses H) (number_of : E → ℕ) (child : C → ChildView) (feed : F → JobView V) (drain : D → JobView W)
     (context : RunContext) (items : List (Item E H)) (now : JournalView) (held : Resources E C F D) (error : Error)

@@ -1,35 +1,10 @@
 -- Each kind of action succeeds or fails.
 use Rattle.std.proofs.Common.{◌≡◌, ◌≢◌, ℕ, ◌+◌, ◌<◌, ◌≤◌, List, [], ◌∷◌, ◌++◌, length, refl, ap, sym, ◌∙◌, arith, append_assoc, length-append, subst, inl, inr, suc, zero, map, Some, None, Ok, Err, is_some, reverse, slice_get, slice_index, true, drop, unwrap_or, Option, Result}
-use Rattle.std.proofs.lemmas.List.{append-nil}
-use Rattle.std.proofs.lemmas.Bool.{cases_lt}
-use Rattle.duct_system.specs.EntryView.{EntryView, Pipe, OpenRead, Create, Duplicate, Parent, Feed, Close}
-use Rattle.duct_system.specs.Journal.{JournalView, Adds, AddsNothing, Asks, GetsEnd, GetsEnds, GivesEnds, IsRefused}
-use Rattle.duct_system.specs.Ledger.{opened_by, spent_by, count_of}
-use Rattle.duct_system.specs.Origin.{Opened, origin, origin_before}
-use Rattle.duct_system.specs.Started.{child_by, feed_by, drain_by}
-use Rattle.duct_system.specs.Trace.{trace, fault_of, is_traced}
-use Rattle.duct_system.specs.declared.error.Error.{Error}
-use Rattle.duct_system.specs.declared.error.Error.TheVariants.{System}
+use Rattle.duct_run.proofs.Common.{append-nil, cases_lt, EntryView, Pipe, OpenRead, Create, Duplicate, Parent, Feed, Close, JournalView, Adds, AddsNothing, Asks, GetsEnd, GetsEnds, GivesEnds, IsRefused, opened_by, spent_by, count_of, Opened, origin, origin_before, child_by, feed_by, drain_by, trace, fault_of, is_traced, Error, System, Fault, Side, at_side, PerSide, Action, State, IsReady, IsWriter, advance, at_depth, pipe_place, end_at, Allows, resources_with_stack, Pairwise, Target, Parents, Nothing, ReaderAt, WriterAt, FileAt, Lends, ResourcesView, open_ends, ends_of_pipes, pipe_ends, entry_kind, item_kind, AnswersUnder, AreFresh, RunContext, IsEarly, IsFrom, IsLater, IsShaped, IsPair, HasOrigins, RunInvariant, IsAllocationFailure, ActionSucceeds, ActionFails, Item, AskPipe, AskOpenRead, AskCreate, AskFeed, is_itself, other_than, count_other, count_same, count-cons, count-append, count-reverse, origin_stays, origin-more, origin_lent, end_at_seam}
 use Rattle.duct_system.specs.declared.spec.Stream.TheVariants as stream
-use Rattle.duct_system.specs.declared.system.Fault.{Fault}
-use Rattle.duct_system.specs.declared.system.Side.{Side}
 use Rattle.duct_system.specs.declared.system.Side.TheVariants as side
-use Rattle.duct_status.specs.PerSide.{at_side}
-use Rattle.duct_status.specs.declared.per_side.PerSide.{PerSide}
 use Rattle.duct_run.specs.Actions as action
-use Rattle.duct_run.specs.Actions.{Action, State, IsReady, IsWriter, advance, at_depth, pipe_place}
-use Rattle.duct_start.specs.Asked.{end_at}
-use Rattle.duct_start.specs.Chain.{Allows}
-use Rattle.duct_run.specs.Commands.{resources_with_stack}
-use Rattle.duct_start.specs.Sources.{Pairwise}
-use Rattle.duct_start.specs.Surroundings.{Target, Parents, Nothing, ReaderAt, WriterAt, FileAt, Lends}
-use Rattle.duct_run.specs.ResourcesView.{ResourcesView, open_ends, ends_of_pipes, pipe_ends}
-use Rattle.duct_run.specs.Kinds.{entry_kind, item_kind}
-use Rattle.duct_run.specs.RunInvariant.{AnswersUnder, AreFresh, RunContext, IsEarly, IsFrom, IsLater, IsShaped, IsPair, HasOrigins, RunInvariant, IsAllocationFailure, ActionSucceeds, ActionFails}
-use Rattle.duct_start.specs.Step.{Item, AskPipe, AskOpenRead, AskCreate, AskFeed}
 use Rattle.duct_run.proofs.Fresh.{fresh_one, fresh_two, fresh_none, later_more}
-use Rattle.duct_start.proofs.Counts.{is_itself, other_than, count_other, count_same, count-cons, count-append, count-reverse}
-use Rattle.duct_start.proofs.Origins.{origin_stays, origin-more, origin_lent, end_at_seam}
 use Rattle.duct_run.proofs.CapturePipes.{counts_with}
 use Rattle.duct_run.proofs.Sources.{duplicate_first, duplicated, pair_level, pair_popped, surely}
 use Rattle.duct_run.proofs.RunInvariant.{Changes, as_many, invariant_more, stops_more, stops_unasked, sources_now, few_now, few_of}

@@ -1,12 +1,8 @@
 -- The plan computed inwards is the plan that is looked up on the paths to the root.
 use Rattle.std.proofs.Common.{◌≡◌, ◌∷◌, length, refl, ap, ◌∙◌}
-use Rattle.duct_system.specs.declared.spec.Stream.TheVariants.{In, Out, Err}
-use Rattle.duct_start.specs.Surroundings.{target_of}
+use Rattle.duct_run.proofs.Common.{In, target_of, stream_goes, resolved_turn, surroundings_on, Path, PathSegment, left_of, right_of, within, segment_place, step_of, Plan, with_item, with_opening, place_for, with_closing, plan_of_subtree, Turn, Decides, DefersTo, AskPipe, step, TreeView, command, pipe, around}
+use Rattle.duct_system.specs.declared.spec.Stream.TheVariants.{Out, Err}
 use Rattle.duct_run.proofs.PlanInward.{surroundings_within, plan_inward}
-use Rattle.duct_start.specs.Lookup.{stream_goes, resolved_turn, surroundings_on, Path, PathSegment, left_of, right_of, within, segment_place, step_of}
-use Rattle.duct_start.specs.Plan.{Plan, with_item, with_opening, place_for, with_closing, plan_of_subtree}
-use Rattle.duct_start.specs.Step.{Turn, Decides, DefersTo, AskPipe, step}
-use Rattle.duct_start.specs.TreeView.{TreeView, command, pipe, around}
 
 turned_same : {E H : Type 0} (turn : Turn E) (up : Path E H)
     → resolved_turn turn (λ outer. stream_goes up outer) ≡ resolved_turn turn (target_of (surroundings_on up))

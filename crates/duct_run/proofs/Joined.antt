@@ -1,23 +1,9 @@
 -- The flat plan of a tree leads to its plan, and leaves the stack as it was.
 use Rattle.std.proofs.Common.{◌≡◌, ℕ, ◌+◌, ◌*◌, ◌≤◌, ◌<◌, List, [], ◌∷◌, ◌++◌, length, refl, ap, sym, ◌∙◌, arith, subst, Bool, Some, None, true, false, All, Option}
-use Rattle.std.proofs.lemmas.List.{append-nil}
-use Rattle.std.proofs.lemmas.List.Elements.{All-append, All-nil, All-cons, All-head, All-tail}
-use Rattle.duct_system.specs.declared.spec.Stream.{Stream}
-use Rattle.duct_system.specs.declared.spec.Stream.TheVariants.{In}
-use Rattle.duct_system.specs.declared.system.Side.{Side}
+use Rattle.duct_run.proofs.Common.{append-nil, All-append, All-nil, All-cons, All-head, All-tail, Stream, In, Side, Action, Scope, State, PerStream, IsReady, AreBelow, Leads, advance, with_plan, StreamSource, slot, depth_inside, actions_of_subtree, actions_of, opened_source, scope_if, root_scope, root_sources, with_input, with_output, on_side, source_inside, sources_inside, actions_around, SourceLeadsTo, is_in, is_out, is_err, is_nothing, is_slot, is_captured, is_lent, SourcesFit, Surroundings, Target, ReaderAt, WriterAt, FileAt, root_surroundings, target_of, resolved_turn, option_or, Plan, with_item, with_closing, initial_plan, with_opening, place_for, plan_of_subtree, depth, ends_in, modifier_ends, opens_depth, said_ends, route_ends, RowOpening, SettingView, Route, opens_nothing, opens_input, opens_read, opens_create, opens_capture, as_outside, to_nothing, to_lent, to_opened, says_folder, says_change, says_hook, row, Item, AskPipe, closing_of, opened_target, opening_of, step_of_setting, step_if_setting, stream_on, turn_of, AskFeed, AskOpenRead, AskCreate, left_step, right_step, step, TreeView, command, pipe, around}
 use Rattle.duct_system.specs.declared.system.Side.TheVariants as side
 use Rattle.duct_run.specs.Actions as action
-use Rattle.duct_run.specs.Actions.{Action, Scope, State, PerStream, IsReady, AreBelow, Leads, advance, with_plan}
-use Rattle.duct_run.specs.Flat.{StreamSource, slot, depth_inside, actions_of_subtree, actions_of, opened_source, scope_if, root_scope, root_sources, with_input, with_output, on_side, source_inside, sources_inside, actions_around, SourceLeadsTo, is_in, is_out, is_err, is_nothing, is_slot, is_captured, is_lent, SourcesFit}
-use Rattle.duct_start.specs.Surroundings.{Surroundings, Target, ReaderAt, WriterAt, FileAt, root_surroundings, target_of}
-use Rattle.duct_start.specs.Lookup.{resolved_turn}
-use Rattle.std.specs.Option.{option_or}
 use Rattle.duct_run.proofs.PlanInward.{surroundings_within, plan_inward}
-use Rattle.duct_start.specs.Plan.{Plan, with_item, with_closing, initial_plan, with_opening, place_for, plan_of_subtree}
-use Rattle.duct_start.specs.Start.{depth, ends_in, modifier_ends, opens_depth, said_ends, route_ends}
-use Rattle.duct_start.specs.Row.{RowOpening, SettingView, Route, opens_nothing, opens_input, opens_read, opens_create, opens_capture, as_outside, to_nothing, to_lent, to_opened, says_folder, says_change, says_hook, row}
-use Rattle.duct_start.specs.Step.{Item, AskPipe, closing_of, opened_target, opening_of, step_of_setting, step_if_setting, stream_on, turn_of, AskFeed, AskOpenRead, AskCreate, left_step, right_step, step}
-use Rattle.duct_start.specs.TreeView.{TreeView, command, pipe, around}
 use Rattle.duct_run.proofs.Inward.{joined}
 use Rattle.duct_run.proofs.Keeping.{keeps, keeps_same, keeps_capture, capture_opens}
 use Rattle.duct_run.proofs.Stacks.{level_top, leads_none, leads_cons, leads_append}

@@ -1,13 +1,8 @@
 -- A plan that grows keeps the places of its open capture pipes.
 use Rattle.std.proofs.Common.{◌≡◌, ℕ, List, length, refl, ap, ◌∙◌, Bool, true, false, Some, None, is_some, if◌then◌else◌, unwrap_or, Option}
-use Rattle.duct_system.specs.declared.system.Side.{Side}
+use Rattle.duct_run.proofs.Common.{Side, at_side, with_side, Surroundings, Plan, with_item, with_capture, with_opening, place_for, program_of, is_canonical, Opening, OpensNothing, Opens, Captures, AskPipe, AskCanonicalize, left_step, right_step, step, TreeView, command, pipe, around}
 use Rattle.duct_system.specs.declared.system.Side.TheVariants.{Out, Err}
-use Rattle.duct_status.specs.PerSide.{at_side, with_side}
-use Rattle.duct_start.specs.Surroundings.{Surroundings}
 use Rattle.duct_run.proofs.PlanInward.{surroundings_within, plan_inward}
-use Rattle.duct_start.specs.Plan.{Plan, with_item, with_capture, with_opening, place_for, program_of, is_canonical}
-use Rattle.duct_start.specs.Step.{Opening, OpensNothing, Opens, Captures, AskPipe, AskCanonicalize, left_step, right_step, step}
-use Rattle.duct_start.specs.TreeView.{TreeView, command, pipe, around}
 
 -- each capture pipe that was open keeps its place
 pub record Keeps {E H : Type 0} (plan next : Plan E H) : Type 0 where

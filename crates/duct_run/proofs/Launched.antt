@@ -1,23 +1,8 @@
 -- A run of the actions of a whole tree is its start, of either kind.
 use Rattle.std.proofs.Common.{◌≡◌, ℕ, ◌+◌, ◌*◌, List, [], ◌++◌, ap, refl, sym, ◌∙◌, arith, subst, false, None, Some, is_some, true, Option}
-use Rattle.std.proofs.lemmas.List.{nil_from_length}
-use Rattle.duct_system.specs.Journal.{JournalView}
-use Rattle.duct_system.specs.declared.error.Error.{Error}
-use Rattle.duct_system.specs.declared.error.Error.TheVariants.{Memory}
+use Rattle.duct_run.proofs.Common.{nil_from_length, JournalView, Error, Memory, Action, Leads, State, with_plan, Allows, Refuses, StoppedWithCause, actions_of, ResourcesView, empty_resources, pipe_ends, Plan, initial_plan, with_drain, plan_of_subtree, with_reader, OpenOutputCapture, LeadToSomePlan, ActionsSucceed, ActionsFail, context_of, tail_for, tree_for, StartKind, Draining, Reading, RunInvariant, StartRefused, StartSucceeds, depth, TreeView}
 use Rattle.duct_system.specs.declared.system.Side.TheVariants as side
-use Rattle.duct_run.specs.Actions.{Action, Leads, State, with_plan}
-use Rattle.duct_start.specs.Chain.{Allows, Refuses}
-use Rattle.duct_run.specs.Commands.{StoppedWithCause}
-use Rattle.duct_run.specs.Flat.{actions_of}
-use Rattle.duct_run.specs.ResourcesView.{ResourcesView, empty_resources, pipe_ends}
-use Rattle.duct_start.specs.Plan.{Plan, initial_plan, with_drain, plan_of_subtree, with_reader}
-use Rattle.duct_run.specs.RunContract.{OpenOutputCapture, LeadToSomePlan, ActionsSucceed, ActionsFail, context_of, tail_for, tree_for}
-use Rattle.duct_run.specs.declared.start.StartKind.{StartKind}
-use Rattle.duct_run.specs.declared.start.StartKind.TheVariants.{Draining, Reading}
-use Rattle.duct_run.specs.RunInvariant.{RunInvariant}
-use Rattle.duct_start.specs.Start.{StartRefused, StartSucceeds, depth}
 use Rattle.duct_run.proofs.Ceiling.{ceiling, ends_below}
-use Rattle.duct_start.specs.TreeView.{TreeView}
 use Rattle.duct_run.proofs.Closes.{closes_none}
 use Rattle.duct_run.proofs.Counted.{list_captures}
 use Rattle.duct_run.proofs.Closing.{refused_closed}

@@ -1,16 +1,9 @@
 -- How a start changes a pool: sweeps one after the other, and then the children that it started.
 use Rattle.std.proofs.Common.{◌≡◌, ℕ, ◌+◌, ◌^◌, ◌<◌, ◌≤◌, List, [], ◌∷◌, ◌++◌, length, refl, ap, sym, ◌∙◌, arith, subst, inl, inr, map, Ok, Err, Some, None, All}
 use Rattle.std.proofs.lemmas.Simd.{map-map}
-use Rattle.std.proofs.lemmas.List.{append-nil, map-append, length-map}
-use Rattle.std.proofs.lemmas.List.Elements.{All-cons, All-nil, All-head, All-tail}
+use Rattle.duct_run.proofs.Common.{append-nil, map-append, length-map, All-cons, All-nil, All-head, All-tail, PoolView, IsGiven, Sieves, counted, Answer, ChildView, PollsChild, IsUnasked, EntryView, children_in, segment, Leaves, LeavesStarted, StaysInPool, TakesIn, pool_view}
 use Rattle.duct_base.proofs.Sieving.{AsksAll, IsSwept, Takes, counted_more, sieves_fewer}
 use Rattle.duct_base.proofs.Taking.{given_none}
-use Rattle.duct_base.specs.Pool.{PoolView, IsGiven, Sieves, counted}
-use Rattle.duct_system.specs.Child.{Answer, ChildView, PollsChild, IsUnasked}
-use Rattle.duct_system.specs.EntryView.{EntryView}
-use Rattle.duct_system.specs.Started.{children_in}
-use Rattle.duct_system.specs.Trace.{segment}
-use Rattle.duct_start.specs.Left.{Leaves, LeavesStarted, StaysInPool, TakesIn, pool_view}
 use Rattle.duct_run.proofs.Whole.{segment-added}
 
 stays_same : (child : ChildView) → StaysInPool child child

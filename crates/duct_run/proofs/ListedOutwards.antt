@@ -1,10 +1,6 @@
 -- In the list of a tree, each scope comes after its outer scope.
 use Rattle.std.proofs.Common.{◌≡◌, ℕ, zero, suc, ◌+◌, ◌≤◌, List, [], ◌∷◌, ◌++◌, length, refl, ap, arith, None, Some, slice_get, Option}
-use Rattle.duct_run.specs.Actions.{PerStream}
-use Rattle.duct_run.specs.Flat.{StreamSource, slot, depth_inside, with_input, with_output, root_sources, sources_inside}
-use Rattle.duct_run.specs.ActionList.{AreOutwards, ScopeEntry, list_of_subtree, list_of, next_index, scope_index, with_scope_entry}
-use Rattle.duct_start.specs.Row.{SettingView, row}
-use Rattle.duct_start.specs.TreeView.{TreeView, command, pipe, around}
+use Rattle.duct_run.proofs.Common.{PerStream, StreamSource, slot, depth_inside, with_input, with_output, root_sources, sources_inside, AreOutwards, ScopeEntry, list_of_subtree, list_of, next_index, scope_index, with_scope_entry, SettingView, row, TreeView, command, pipe, around}
 
 module _ {E H : Type 0} where
   -- the same for scopes that come after `base` others

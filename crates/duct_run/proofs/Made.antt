@@ -1,13 +1,7 @@
 -- The spec that is made for a command is the one that its tree asks for, where each port is that of
 -- its stream's target.
 use Rattle.std.proofs.Common.{◌≡◌, ◌∙◌, ℕ, List}
-use Rattle.duct_system.specs.SpecView.{SpecView, Vars}
-use Rattle.duct_system.specs.declared.spec.Port.{Port}
-use Rattle.duct_system.specs.declared.spec.Stream.{Stream}
-use Rattle.duct_run.specs.Actions.{Scope, PerStream, surroundings_by, port_in}
-use Rattle.duct_start.specs.Asked.{IsAsked, port_to}
-use Rattle.duct_start.specs.Surroundings.{Target, target_of}
-use Rattle.duct_run.specs.Made.{IsMade}
+use Rattle.duct_run.proofs.Common.{SpecView, Vars, Port, Stream, Scope, PerStream, surroundings_by, port_in, IsAsked, port_to, Target, target_of, IsMade}
 
 pub made_is_asked : {E H : Type 0} (pairs : Vars) (program : List ℕ) (scope : Scope E H)
     (words : List (List ℕ)) (ports : PerStream Port) (spec : SpecView)

@@ -1,24 +1,13 @@
 -- What a successful run holds is a running start, where no child was polled or given an order and
 -- no worker was polled.
 use Rattle.std.proofs.Common.{◌≡◌, ℕ, List, [], ◌∷◌, ◌++◌, refl, ap, sym, ◌∙◌, subst, map, is_some, option_to_list, All}
-use Rattle.std.proofs.lemmas.List.Elements.{All-append, All-head, All-tail}
+use Rattle.duct_run.proofs.Common.{All-append, All-head, All-tail, ChildView, EntryView, JobView, unpolled_job, JournalView, segment, State, Allows, LedgerInvariant, RunContext, RunInvariant, TreeView, AreNew, resources_view, Resources}
 use Rattle.duct_status.specs.ShapeView.{shape_view}
 use Rattle.duct_status.specs.declared.status.Shape.{Shape}
-use Rattle.duct_system.specs.Child.{ChildView}
-use Rattle.duct_system.specs.EntryView.{EntryView}
-use Rattle.duct_system.specs.Job.{JobView, unpolled_job}
-use Rattle.duct_system.specs.Journal.{JournalView}
-use Rattle.duct_system.specs.Trace.{segment}
 use Rattle.duct_system.specs.declared.system.Side.TheVariants as side
-use Rattle.duct_run.specs.Actions.{State}
-use Rattle.duct_start.specs.Chain.{Allows}
 use Rattle.duct_start.specs.Running.{IsRunning, RunningView}
 use Rattle.duct_start.specs.ShapeOfTree.{shape_of_tree}
-use Rattle.duct_run.specs.RunInvariant.{LedgerInvariant, RunContext, RunInvariant}
-use Rattle.duct_start.specs.TreeView.{TreeView}
 use Rattle.duct_run.proofs.Whole.{segment_is}
-use Rattle.duct_run.specs.ResourcesView.{AreNew, resources_view}
-use Rattle.duct_run.specs.declared.resources.Resources.{Resources}
 
 -- jobs that were never polled are determined by their numbers
 unpolled_all : {J V : Type 0} (job : J → JobView V) (jobs : List J)

@@ -1,7 +1,6 @@
 -- Where stdout's capture pipe is open, there is room to give away its two ends.
 use Rattle.std.proofs.Common.{◌≡◌, ℕ, ◌≤◌, List, ◌++◌, true, length, arith, length-append, Some, None, is_some, Option}
-use Rattle.duct_status.specs.declared.per_side.PerSide.{PerSide}
-use Rattle.duct_run.specs.ResourcesView.{ends_of_pipes, pipe_ends}
+use Rattle.duct_run.proofs.Common.{PerSide, ends_of_pipes, pipe_ends}
 
 two_open : (pipe : Option (ℕ × ℕ)) → is_some pipe ≡ true → 2 ≤ length (pipe_ends pipe)
 two_open (Some pair) is = omega arith

@@ -1,11 +1,7 @@
 -- One step to the scope outside, as the code reads it.
 use Rattle.std.proofs.Common.{◌≡◌, ℕ, ◌+◌, ◌-◌, ◌<◌, ◌≤◌, length, get_or, refl, ap, sym, ◌∙◌, arith, List, Some, slice_get, option_map}
-use Rattle.std.proofs.lemmas.Option.{slice_get-map, slice_get_read}
-use Rattle.duct_run.specs.Flat.{root_scope, scope_inside}
-use Rattle.duct_run.specs.ActionList.{AreOutwards, scope_in}
-use Rattle.duct_start.specs.Step.{step_of_setting}
+use Rattle.duct_run.proofs.Common.{slice_get-map, slice_get_read, root_scope, scope_inside, AreOutwards, scope_in, step_of_setting, scope_view, scopes_view, setting_view}
 use Rattle.duct_run.proofs.ScopeIn.{scope_in_root, scope_in_next}
-use Rattle.duct_run.specs.ActionView.{scope_view, scopes_view, setting_view}
 use Rattle.duct_run.specs.declared.scope.Scope.{Scope}
 
 -- this scope was read at an index that is not the root's

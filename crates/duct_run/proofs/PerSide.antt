@@ -1,11 +1,7 @@
 -- The capture pipes and workers of a run once one of them is another one.
 use Rattle.std.proofs.Common.{◌≡◌, ℕ, [], ◌∷◌, ◌++◌, refl, ap, sym, ◌∙◌, map, None, Some, option_to_list, Option}
-use Rattle.std.proofs.lemmas.List.{append-nil, map-append}
-use Rattle.duct_system.specs.declared.system.Side.{Side}
+use Rattle.duct_run.proofs.Common.{append-nil, map-append, Side, at_side, with_side, PerSide, pipe_view, both, pipes_view}
 use Rattle.duct_system.specs.declared.system.Side.TheVariants.{Out, Err}
-use Rattle.duct_status.specs.PerSide.{at_side, with_side}
-use Rattle.duct_status.specs.declared.per_side.PerSide.{PerSide}
-use Rattle.duct_run.specs.ResourcesView.{pipe_view, both, pipes_view}
 
 -- the pipe of one side, by numbers
 pub pipe_at : {E : Type 0} (number_of : E → ℕ) (pipes : PerSide (Option (E × E))) (which : Side)

@@ -1,12 +1,7 @@
 -- The plan computed inwards: the surroundings are passed down from the root to each command.
 use Rattle.std.specs.Prelude.{ℕ, ◌++◌, length}
-use Rattle.std.specs.Option.{option_or}
-use Rattle.duct_system.specs.declared.spec.Stream.TheVariants.{In, Out, Err}
-use Rattle.duct_start.specs.Surroundings.{Surroundings, target_of}
-use Rattle.duct_start.specs.Lookup.{resolved_turn}
-use Rattle.duct_start.specs.Plan.{Plan, with_item, with_opening, place_for, with_closing, with_command}
-use Rattle.duct_start.specs.Step.{NodeStep, AskPipe, left_step, right_step, step}
-use Rattle.duct_start.specs.TreeView.{TreeView, command, pipe, around}
+use Rattle.duct_run.proofs.Common.{option_or, In, Surroundings, target_of, resolved_turn, Plan, with_item, with_opening, place_for, with_closing, with_command, NodeStep, AskPipe, left_step, right_step, step, TreeView, command, pipe, around}
+use Rattle.duct_system.specs.declared.spec.Stream.TheVariants.{Out, Err}
 
 -- the surroundings inside a node at this place, by those around it
 abbrev pub surroundings_within : {E H : Type 0} → NodeStep E H → ℕ → Surroundings E H

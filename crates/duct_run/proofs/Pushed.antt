@@ -1,25 +1,9 @@
 -- The stack of a run, as its vector grows and shrinks.
 use Rattle.std.proofs.Common.{◌+◌, ◌≤◌, length-append, ◌≡◌, ℕ, ◌<◌, List, [], ◌∷◌, ◌++◌, length, ap, sym, ◌∙◌, subst, get_or, refl, arith, min, map, reverse, slice_get, Some, option_map, All, Result}
 use Rattle.std.proofs.Math.Nat.{min-le_right}
-use Rattle.std.proofs.lemmas.List.Elements.{All-append, All-cons, All-nil}
-use Rattle.std.proofs.lemmas.List.{reverse-append, map-append, reverse-reverse, length-reverse, length-map}
-use Rattle.std.proofs.lemmas.Option.{slice_get-get_or, slice_get-map}
-use Rattle.duct_system.specs.EntryView.{Feed}
-use Rattle.duct_system.specs.Job.{JobView, unpolled_job}
-use Rattle.duct_system.specs.Journal.{JournalView, AddsNothing, GivesEnds}
-use Rattle.duct_system.specs.declared.system.Fault.{Fault}
-use Rattle.duct_system.specs.Streams.{end_of, ends_of, stream_of}
-use Rattle.duct_system.specs.declared.spec.Port.{Port}
-use Rattle.duct_system.specs.declared.system.Stdio.{Stdio}
-use Rattle.duct_system.specs.declared.system.Stdio.TheVariants.{Inherit, Null, End}
-use Rattle.duct_run.specs.Actions.{Action, PerStream, stack_after_ports, at_depth, port_end_count}
-use Rattle.duct_run.specs.Commands.{stack_with_streams, resources_with_stack, port_streams}
-use Rattle.duct_start.specs.Chain.{Allows}
-use Rattle.duct_run.specs.ResourcesView.{ResourcesView, stack_view}
-use Rattle.duct_run.specs.RunInvariant.{ActionSucceeds}
+use Rattle.duct_run.proofs.Common.{All-append, All-cons, All-nil, reverse-append, map-append, reverse-reverse, length-reverse, length-map, slice_get-get_or, slice_get-map, Feed, JobView, unpolled_job, JournalView, AddsNothing, GivesEnds, Fault, end_of, ends_of, stream_of, Port, Stdio, Inherit, Null, End, Action, PerStream, stack_after_ports, at_depth, port_end_count, stack_with_streams, resources_with_stack, port_streams, Allows, ResourcesView, stack_view, ActionSucceeds, many_ends, streams_view}
 use Rattle.duct_run.proofs.Changing.{handed_long}
 use Rattle.duct_run.proofs.Wires.{handed_taken}
-use Rattle.duct_run.specs.StreamsView.{many_ends, streams_view}
 use Rattle.duct_run.specs.declared.streams.Streams.{Streams}
 
 module _ {E : Type 0} (f : E → ℕ) where

@@ -1,19 +1,9 @@
 -- The end of a reader's start: the write end of stdout's capture pipe is closed, and a reader is
 -- made of its read end.
 use Rattle.std.proofs.Common.{◌≡◌, ℕ, ◌≤◌, List, [], ◌∷◌, ◌++◌, length, refl, ap, sym, ◌∙◌, arith, subst, append_assoc, Some, unwrap_or, Option}
-use Rattle.std.proofs.lemmas.List.{append-nil}
-use Rattle.duct_system.specs.EntryView.{EntryView, Close, Reader}
-use Rattle.duct_system.specs.Journal.{JournalView, GivesEnds}
-use Rattle.duct_system.specs.Trace.{segment}
+use Rattle.duct_run.proofs.Common.{append-nil, EntryView, Close, Reader, JournalView, GivesEnds, segment, Action, State, with_plan, Allows, ResourcesView, with_reader, PlanTail, ActionsSucceed, LeadToSomePlan, context_of, reader_tail, RunContext, IsLater, RunInvariant, Item, AskReader}
 use Rattle.duct_system.specs.declared.system.Side.TheVariants as side
-use Rattle.duct_run.specs.Actions.{Action, State, with_plan}
-use Rattle.duct_start.specs.Chain.{Allows}
-use Rattle.duct_run.specs.ResourcesView.{ResourcesView}
-use Rattle.duct_start.specs.Plan.{with_reader}
-use Rattle.duct_run.specs.RunContract.{PlanTail, ActionsSucceed, LeadToSomePlan, context_of, reader_tail}
 use Rattle.duct_start.specs.Running.{MadeReader}
-use Rattle.duct_run.specs.RunInvariant.{RunContext, IsLater, RunInvariant}
-use Rattle.duct_start.specs.Step.{Item, AskReader}
 use Rattle.duct_run.proofs.Captured.{closes, mid_state, open_place, without}
 use Rattle.duct_run.proofs.Going.{pop_changes}
 use Rattle.duct_run.proofs.RunInvariant.{Changes, few_of, sources_now, invariant_more}

@@ -1,26 +1,9 @@
 -- The streams of a command are among the ends on a stack, and each may be changed to another end.
 use Rattle.std.proofs.Common.{◌≡◌, ℕ, suc, zero, ◌<◌, ◌≤◌, List, [], ◌∷◌, ◌++◌, length, refl, ap, sym, ◌∙◌, arith, subst, length-append, get_or, All, Err, None, Ok, Some, map, slice_get, option_map}
-use Rattle.std.proofs.lemmas.List.Elements.{All-head, All-tail}
+use Rattle.duct_run.proofs.Common.{All-head, All-tail, slice_get-get_or, slice_get-map, Close, Duplicate, JournalView, GetsEnd, GivesEnds, IsRefused, count_of, end_of, System, Port, Fault, Stdio, Inherit, Null, End, State, Allows, end_of_place, missing_at, stream_after_hook, IsAlike, CloseSucceeds, RedirectSucceeds, RedirectFails, resources_with_stack, with_stack, Target, Lends, ResourcesView, open_ends, ends_of_pipes, RunContext, IsEarly, IsFrom, RunInvariant, count-append}
 use Rattle.std.proofs.lemmas.Bool.Decides.{nat_tests}
-use Rattle.std.proofs.lemmas.Option.{slice_get-get_or, slice_get-map}
-use Rattle.duct_system.specs.EntryView.{Close, Duplicate}
-use Rattle.duct_system.specs.Journal.{JournalView, GetsEnd, GivesEnds, IsRefused}
-use Rattle.duct_system.specs.Ledger.{count_of}
-use Rattle.duct_system.specs.Streams.{end_of}
-use Rattle.duct_system.specs.declared.error.Error.TheVariants.{System}
-use Rattle.duct_system.specs.declared.spec.Port.{Port}
 use Rattle.duct_system.specs.declared.spec.Port.TheVariants as port
-use Rattle.duct_system.specs.declared.system.Fault.{Fault}
-use Rattle.duct_system.specs.declared.system.Stdio.{Stdio}
-use Rattle.duct_system.specs.declared.system.Stdio.TheVariants.{Inherit, Null, End}
 use Rattle.duct_run.specs.Actions as action
-use Rattle.duct_run.specs.Actions.{State}
-use Rattle.duct_start.specs.Chain.{Allows, end_of_place, missing_at, stream_after_hook}
-use Rattle.duct_run.specs.Commands.{IsAlike, CloseSucceeds, RedirectSucceeds, RedirectFails, resources_with_stack, with_stack}
-use Rattle.duct_start.specs.Surroundings.{Target, Lends}
-use Rattle.duct_run.specs.ResourcesView.{ResourcesView, open_ends, ends_of_pipes}
-use Rattle.duct_run.specs.RunInvariant.{RunContext, IsEarly, IsFrom, RunInvariant}
-use Rattle.duct_start.proofs.Counts.{count-append}
 use Rattle.duct_run.proofs.Going.{close_succeeds, duplicate_fails, lend_succeeds}
 use Rattle.duct_run.proofs.Sources.{pair_swapped}
 

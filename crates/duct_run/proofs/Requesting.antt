@@ -1,12 +1,7 @@
 -- A request that succeeded, and one that failed.
 use Rattle.std.specs.Prelude.{Ok, Err}
-use Rattle.duct_system.specs.declared.error.Error.{Error}
-use Rattle.duct_run.specs.Actions.{Action}
-use Rattle.duct_start.specs.Chain.{Allows}
-use Rattle.duct_run.specs.ResourcesView.{HasSameWorkers}
+use Rattle.duct_run.proofs.Common.{Error, Action, Allows, HasSameWorkers, SystemViews, Resources}
 use Rattle.duct_run.specs.Requested.{HoldsUnasked, RequestSucceeds, RequestFails, Requested}
-use Rattle.duct_system.specs.SystemViews.{SystemViews}
-use Rattle.duct_run.specs.declared.resources.Resources.{Resources}
 
 pub goes_on : {S E H C F D V W : Type 0} {views : SystemViews S E C F D V W} {allows : Allows H}
     {act : Action E H} {sys after : S} {held kept : Resources E C F D}

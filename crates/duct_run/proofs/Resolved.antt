@@ -1,15 +1,8 @@
 -- The list of a tree, with the scopes themselves in place of their indices, is its flat plan.
 use Rattle.std.proofs.Common.{◌≡◌, ℕ, ◌+◌, List, [], ◌∷◌, ◌++◌, length, refl, ap, sym, ◌∙◌, arith, length-append, None, Some, slice_get, unwrap_or, Option}
-use Rattle.std.proofs.lemmas.List.{map-append}
-use Rattle.duct_system.specs.declared.spec.Stream.{Stream}
-use Rattle.duct_system.specs.declared.spec.Stream.TheVariants.{In, Out, Err}
+use Rattle.duct_run.proofs.Common.{map-append, Stream, In, Action, ActionOf, Scope, PerStream, StreamSource, parents, nothing, slot, captured, lent, source_actions, command_actions, depth_inside, ports_at, with_input, with_output, actions_of_subtree, actions_of, root_scope, root_sources, scope_if, scope_inside, sources_inside, actions_around, ScopeEntry, list_of_subtree, list_of, next_index, scope_at, scope_index, with_scope_entry, with_scope, scopes_from, resolved, resolved_all, RowOpening, SettingView, opens_nothing, opens_input, opens_read, opens_create, opens_capture, row, step_of_setting, TreeView, command, pipe, around}
+use Rattle.duct_system.specs.declared.spec.Stream.TheVariants.{Out, Err}
 use Rattle.duct_run.specs.Actions as action
-use Rattle.duct_run.specs.Actions.{Action, ActionOf, Scope, PerStream}
-use Rattle.duct_run.specs.Flat.{StreamSource, parents, nothing, slot, captured, lent, source_actions, command_actions, depth_inside, ports_at, with_input, with_output, actions_of_subtree, actions_of, root_scope, root_sources, scope_if, scope_inside, sources_inside, actions_around}
-use Rattle.duct_run.specs.ActionList.{ScopeEntry, list_of_subtree, list_of, next_index, scope_at, scope_index, with_scope_entry, with_scope, scopes_from, resolved, resolved_all}
-use Rattle.duct_start.specs.Row.{RowOpening, SettingView, opens_nothing, opens_input, opens_read, opens_create, opens_capture, row}
-use Rattle.duct_start.specs.Step.{step_of_setting}
-use Rattle.duct_start.specs.TreeView.{TreeView, command, pipe, around}
 use Rattle.duct_run.proofs.ScopeIn.{known_stays}
 use Rattle.duct_run.proofs.Stacks.{get_seam}
 

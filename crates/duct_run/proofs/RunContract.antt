@@ -1,27 +1,8 @@
 -- A run from the environment to the capture pipes.
 use Rattle.std.proofs.Common.{◌≡◌, ℕ, ◌≤◌, List, [], ◌∷◌, ◌++◌, length, refl, ap, sym, ◌∙◌, append_assoc, arith, subst, Err, None, Ok, Some, is_some, slice_get, Option}
-use Rattle.std.proofs.lemmas.List.{append-nil}
-use Rattle.duct_system.specs.EntryView.{EntryView, Environment}
-use Rattle.duct_system.specs.Journal.{JournalView, Asks, IsRefused}
-use Rattle.duct_system.specs.Trace.{trace}
-use Rattle.duct_system.specs.declared.error.Error.{Error}
-use Rattle.duct_system.specs.declared.error.Error.TheVariants.{System}
-use Rattle.duct_system.specs.declared.system.Fault.{Fault}
-use Rattle.duct_system.specs.declared.system.Side.{Side}
+use Rattle.duct_run.proofs.Common.{append-nil, EntryView, Environment, JournalView, Asks, IsRefused, trace, Error, System, Fault, Side, at_side, Action, Leads, State, with_capture_finished, with_plan, StoppedBy, Allows, Refuses, StoppedWithCause, ResourcesView, empty_resources, open_ends, Plan, initial_plan, with_drain, with_reader, PlanTail, HaveWorkers, ActionsFail, ActionsSucceed, LeadToSomePlan, context_of, no_tail, reader_tail, tail_for, StartKind, Draining, Reading, RunContext, ActionSucceeds, IsHookError, ActionFails, ReadyForActions, Item, AskEnvironment, AskDrain, AskReader}
 use Rattle.duct_system.specs.declared.system.Side.TheVariants as side
-use Rattle.duct_status.specs.PerSide.{at_side}
 use Rattle.duct_run.specs.Actions as action
-use Rattle.duct_run.specs.Actions.{Action, Leads, State, with_capture_finished, with_plan}
-use Rattle.duct_start.specs.Causes.{StoppedBy}
-use Rattle.duct_start.specs.Chain.{Allows, Refuses}
-use Rattle.duct_run.specs.Commands.{StoppedWithCause}
-use Rattle.duct_run.specs.ResourcesView.{ResourcesView, empty_resources, open_ends}
-use Rattle.duct_start.specs.Plan.{Plan, initial_plan, with_drain, with_reader}
-use Rattle.duct_run.specs.RunContract.{PlanTail, HaveWorkers, ActionsFail, ActionsSucceed, LeadToSomePlan, context_of, no_tail, reader_tail, tail_for}
-use Rattle.duct_run.specs.declared.start.StartKind.{StartKind}
-use Rattle.duct_run.specs.declared.start.StartKind.TheVariants.{Draining, Reading}
-use Rattle.duct_run.specs.RunInvariant.{RunContext, ActionSucceeds, IsHookError, ActionFails, ReadyForActions}
-use Rattle.duct_start.specs.Step.{Item, AskEnvironment, AskDrain, AskReader}
 use Rattle.duct_run.proofs.Running.{items_grow, invariant_begun, stopped_begun}
 use Rattle.duct_run.proofs.Spawning.{plain_refused, stopped_front}
 use Rattle.duct_run.proofs.Stacks.{get_front}

@@ -1,25 +1,6 @@
 -- A run goes on by one entry, or stops there.
 use Rattle.std.proofs.Common.{◌≡◌, ℕ, zero, suc, take, refl, inl, inr, ◌+◌, ◌<◌, ◌≤◌, List, [], ◌∷◌, ◌++◌, length, ap, sym, ◌∙◌, arith, subst, append_assoc, length-append, Some, None, map, Option}
-use Rattle.std.proofs.lemmas.List.{append-nil, length-map, map-append}
-use Rattle.std.proofs.lemmas.Bool.{cases_lt}
-use Rattle.std.proofs.lemmas.Grind.{flat_map-append}
-use Rattle.duct_system.specs.EntryView.{EntryView}
-use Rattle.duct_system.specs.Journal.{JournalView, Adds, AddsNothing}
-use Rattle.duct_system.specs.Ledger.{opened_numbers, spent_numbers, open_count, opened_by, spent_by, count_of}
-use Rattle.duct_system.specs.Started.{children_in, feeds_in, drains_in, child_by, feed_by, drain_by}
-use Rattle.duct_system.specs.Trace.{trace, IsClean, fault_of}
-use Rattle.duct_system.specs.declared.error.Error.{Error}
-use Rattle.duct_system.specs.declared.error.Error.TheVariants.{System}
-use Rattle.duct_system.specs.declared.system.Fault.{Fault}
-use Rattle.duct_run.specs.Actions.{State}
-use Rattle.duct_start.specs.Chain.{Allows}
-use Rattle.duct_start.specs.Follows.{AnswersFromBy, StreamsRelation, pairs_in}
-use Rattle.duct_run.specs.ResourcesView.{ResourcesView, open_ends, ends_of_pipes, pipe_ends}
-use Rattle.duct_run.specs.Kinds.{ItemKind, entry_kind, item_kind}
-use Rattle.duct_run.specs.RunInvariant.{AnswersUnder, AreFresh, RunContext, OpenEndsWithin, IsEarly, IsLater, IsShaped, LedgerInvariant, GivesUnder, HasOrigins, RunInvariant, StopInvariant, refused, unasked, IsAllocationFailure}
-use Rattle.duct_start.specs.Step.{Item}
-use Rattle.duct_start.proofs.Counts.{once_of}
-use Rattle.duct_start.proofs.Origins.{opened_numbers-append, spent_numbers-append, count_got-append, count_spent-append, trace-append}
+use Rattle.duct_run.proofs.Common.{append-nil, length-map, map-append, cases_lt, flat_map-append, EntryView, JournalView, Adds, AddsNothing, opened_numbers, spent_numbers, open_count, opened_by, spent_by, count_of, children_in, feeds_in, drains_in, child_by, feed_by, drain_by, trace, IsClean, fault_of, Error, System, Fault, State, Allows, AnswersFromBy, StreamsRelation, pairs_in, ResourcesView, open_ends, ends_of_pipes, pipe_ends, ItemKind, entry_kind, item_kind, AnswersUnder, AreFresh, RunContext, OpenEndsWithin, IsEarly, IsLater, IsShaped, LedgerInvariant, GivesUnder, HasOrigins, RunInvariant, StopInvariant, refused, unasked, IsAllocationFailure, Item, once_of, opened_numbers-append, spent_numbers-append, count_got-append, count_spent-append, trace-append}
 use Rattle.duct_run.proofs.Fresh.{later_more}
 
 -- the trace has as many entries as the plan has items

@@ -1,23 +1,8 @@
 -- A run over a list of actions.
 use Rattle.std.proofs.Common.{◌≡◌, ℕ, zero, suc, inl, inr, ◌≤◌, List, [], ◌∷◌, ◌++◌, length, refl, ap, sym, ◌∙◌, arith, append_assoc, length-append, subst, take, Some, None, Ok, Err, is_some, if◌then◌else◌, Option}
-use Rattle.std.proofs.lemmas.List.{append-nil}
-use Rattle.duct_system.specs.EntryView.{EntryView, Environment}
-use Rattle.duct_system.specs.Journal.{JournalView, AddsNothing, Asks, IsRefused}
-use Rattle.duct_system.specs.Ledger.{opened_numbers, spent_numbers, opened_by, spent_by}
-use Rattle.duct_system.specs.Started.{child_by, feed_by, drain_by}
-use Rattle.duct_system.specs.declared.error.Error.{Error}
-use Rattle.duct_system.specs.declared.error.Error.TheVariants.{System}
-use Rattle.duct_system.specs.declared.system.Fault.{Fault}
+use Rattle.duct_run.proofs.Common.{append-nil, EntryView, Environment, JournalView, AddsNothing, Asks, IsRefused, opened_numbers, spent_numbers, opened_by, spent_by, child_by, feed_by, drain_by, Error, System, Fault, at_side, Action, State, IsReady, AreReady, after_actions, advance, pop_count, with_plan, Allows, ResourcesView, empty_resources, Plan, initial_plan, with_drain, LedgerInvariant, RunContext, IsPair, OpenEndsWithin, IsShaped, RunInvariant, ReadyForActions, StopInvariant, ActionSucceeds, IsAllocationFailure, FindsItsEnds, refused, unasked, Item, AskEnvironment, AskDrain, AskPipe, items_of, commanded_is}
 use Rattle.duct_system.specs.declared.system.Side.TheVariants as side
-use Rattle.duct_status.specs.PerSide.{at_side}
 use Rattle.duct_run.specs.Actions as action
-use Rattle.duct_run.specs.Actions.{Action, State, IsReady, AreReady, after_actions, advance, pop_count, with_plan}
-use Rattle.duct_start.specs.Chain.{Allows}
-use Rattle.duct_run.specs.ResourcesView.{ResourcesView, empty_resources}
-use Rattle.duct_start.specs.Plan.{Plan, initial_plan, with_drain}
-use Rattle.duct_run.specs.RunInvariant.{LedgerInvariant, RunContext, IsPair, OpenEndsWithin, IsShaped, RunInvariant, ReadyForActions, StopInvariant, ActionSucceeds, IsAllocationFailure, FindsItsEnds, refused, unasked}
-use Rattle.duct_start.specs.Step.{Item, AskEnvironment, AskDrain, AskPipe}
-use Rattle.duct_start.proofs.Commanded.{items_of, commanded_is}
 use Rattle.duct_run.proofs.Going.{none_changes}
 use Rattle.duct_run.proofs.CapturePipes.{each_none}
 use Rattle.duct_run.proofs.RunInvariant.{ledger_more, stops_unasked}

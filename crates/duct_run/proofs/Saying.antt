@@ -1,18 +1,8 @@
 -- An action that succeeds or fails from any state of a run does so where the system returned these
 -- variables.
 use Rattle.std.proofs.Common.{ℕ, OnOk, IfErr, Result}
-use Rattle.std.proofs.lemmas.Result.{on_ok_weaker, IfErr-weaker}
-use Rattle.duct_system.specs.Journal.{JournalView}
-use Rattle.duct_system.specs.SpecView.{Vars}
-use Rattle.duct_system.specs.declared.error.Error.{Error}
-use Rattle.duct_run.specs.Actions.{Action, advance}
-use Rattle.duct_start.specs.Chain.{Allows, Refuses}
-use Rattle.duct_run.specs.Commands.{ActionSucceedsWith, ActionFailsWith}
-use Rattle.duct_run.specs.ResourcesView.{ResourcesView}
-use Rattle.duct_run.specs.RunInvariant.{ActionSucceeds, IsHookError, ActionFails}
+use Rattle.duct_run.proofs.Common.{on_ok_weaker, IfErr-weaker, JournalView, Vars, Error, Action, advance, Allows, Refuses, ActionSucceedsWith, ActionFailsWith, ResourcesView, ActionSucceeds, IsHookError, ActionFails, SystemViews, Resources}
 use Rattle.duct_run.specs.Requested.{Performed, Requested}
-use Rattle.duct_system.specs.SystemViews.{SystemViews}
-use Rattle.duct_run.specs.declared.resources.Resources.{Resources}
 use Rattle.duct_run.proofs.Spawning.{plain_refused}
 
 module _ {E H : Type 0} (allows : Allows H) (number_of : E → ℕ) (pairs : Vars) (act : Action E H)

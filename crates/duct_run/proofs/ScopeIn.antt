@@ -1,10 +1,6 @@
 -- The scope of an index in a list: what its own node sets, inside its outer scope.
 use Rattle.std.proofs.Common.{◌≡◌, ℕ, zero, suc, ◌+◌, ◌<◌, List, [], ◌∷◌, ◌++◌, length, ap, sym, ◌∙◌, arith, inl, inr, length-append, Some, slice_get, unwrap_or}
-use Rattle.std.proofs.lemmas.Option.{slice_get_cases}
-use Rattle.duct_run.specs.Actions.{Scope}
-use Rattle.duct_run.specs.Flat.{root_scope, scope_inside}
-use Rattle.duct_run.specs.ActionList.{AreOutwards, ScopeEntry, scope_at, scope_in, scopes_from, with_scope}
-use Rattle.duct_start.specs.Step.{step_of_setting}
+use Rattle.duct_run.proofs.Common.{slice_get_cases, Scope, root_scope, scope_inside, AreOutwards, ScopeEntry, scope_at, scope_in, scopes_from, with_scope, step_of_setting}
 use Rattle.duct_run.proofs.Stacks.{get_front, get_seam}
 
 module _ {E H : Type 0} where

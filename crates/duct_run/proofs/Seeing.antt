@@ -1,12 +1,12 @@
 -- The views of a system, by the members of its traits.
-use Rattle.std.specs.Prelude.{ℕ, Vec}
+use Rattle.duct_run.proofs.Common.{Vec, SystemViews}
+use Rattle.std.specs.Prelude.{ℕ}
 use Rattle.std.specs.declared.alloc.Global.{Global}
 use Rattle.std.specs.declared.sync.Arc.{Arc}
 use Rattle.duct_system.specs.declared.system.Child
 use Rattle.duct_system.specs.declared.system.Job
 use Rattle.duct_system.specs.declared.system.Numbered
 use Rattle.duct_system.specs.declared.system.System
-use Rattle.duct_system.specs.SystemViews.{SystemViews}
 
 -- the views that the trait `Viewed` gives
 abbrev pub views_of : {S E C F D R : Type 0} → System.Ghosts S E C F D R → Numbered.Ghosts E

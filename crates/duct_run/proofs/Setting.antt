@@ -1,13 +1,9 @@
 -- Settings of scopes, collected from the inside out.
 use Rattle.std.specs.Borrow.{Bor}
-use Rattle.std.specs.Option.{option_copied, option_or}
+use Rattle.duct_run.proofs.Common.{option_or, append-nil, Vars, variable, Scope, changes_of, hooks_of, root_scope}
+use Rattle.std.specs.Option.{option_copied}
 use Rattle.std.proofs.Common.{◌≡◌, refl, ap, sym, ◌∙◌, ℕ, List, [], ◌∷◌, ◌++◌, Some, None, Option}
-use Rattle.std.proofs.lemmas.List.{append-nil}
-use Rattle.duct_system.specs.SpecView.{Vars}
-use Rattle.duct_start.specs.Surroundings.{variable}
-use Rattle.duct_run.specs.Actions.{Scope}
-use Rattle.duct_run.specs.Settings.{changes_of, Sets, hooks_of}
-use Rattle.duct_run.specs.Flat.{root_scope}
+use Rattle.duct_run.specs.Settings.{Sets}
 use Rattle.duct_run.specs.declared.settings.Settings.{Settings}
 
 -- a hook behind others comes before them

@@ -1,17 +1,7 @@
 -- Numbers of ends that come from their targets, pair by pair.
 use Rattle.std.proofs.Common.{◌≡◌, ℕ, ◌+◌, zero, suc, List, [], ◌∷◌, ◌++◌, length, ◌∙◌, arith, subst, sym, refl, inl, inr, ◌⊎◌, None, Ok, Some, drop, reverse, slice_get, unwrap_or, Option}
-use Rattle.std.proofs.lemmas.List.{append-nil, reverse-append}
-use Rattle.duct_system.specs.EntryView.{EntryView, Spawn, Duplicate}
-use Rattle.duct_system.specs.Origin.{Origin, Opened, origin}
+use Rattle.duct_run.proofs.Common.{append-nil, reverse-append, EntryView, Spawn, Duplicate, Origin, Opened, origin, Stdio, at_depth, Allows, AnswersBy, AnswersFrom, AnswersFromBy, StreamsRelation, GivesExactly, Target, Parents, Nothing, ReaderAt, WriterAt, FileAt, Lends, ComesFrom, IsDuplicate, IsDuplicateBefore, IsGivenFrom, Pairwise, AnswersUnder, RunContext, GivesUnder, HasOrigin, IsEarly, IsFrom, Item, AskSpawn}
 use Rattle.duct_system.specs.declared.spec.Stream.TheVariants as stream
-use Rattle.duct_system.specs.declared.system.Stdio.{Stdio}
-use Rattle.duct_run.specs.Actions.{at_depth}
-use Rattle.duct_start.specs.Chain.{Allows}
-use Rattle.duct_start.specs.Follows.{AnswersBy, AnswersFrom, AnswersFromBy, StreamsRelation, GivesExactly}
-use Rattle.duct_start.specs.Surroundings.{Target, Parents, Nothing, ReaderAt, WriterAt, FileAt, Lends}
-use Rattle.duct_start.specs.Sources.{ComesFrom, IsDuplicate, IsDuplicateBefore, IsGivenFrom, Pairwise}
-use Rattle.duct_run.specs.RunInvariant.{AnswersUnder, RunContext, GivesUnder, HasOrigin, IsEarly, IsFrom}
-use Rattle.duct_start.specs.Step.{Item, AskSpawn}
 
 module _ {A B : Type 0} (R : A → B → Type 0) where
   pub pair_append : (xs ys : List A) (us vs : List B) → Pairwise R xs us → Pairwise R ys vs

@@ -1,41 +1,13 @@
 -- The spawn of a command, after its canonical path and its hooks.
 use Rattle.std.proofs.Common.{◌≡◌, ℕ, zero, suc, inl, inr, ◌+◌, ◌-◌, ◌<◌, ◌≤◌, List, [], ◌∷◌, ◌++◌, length, refl, ap, sym, ◌∙◌, arith, subst, append_assoc, length-append, Bool, true, false, Err, Ok, Some, if◌then◌else◌, map, slice_get, Option, Result}
-use Rattle.std.proofs.lemmas.List.{append-nil, nil_from_length}
-use Rattle.duct_system.specs.EntryView.{EntryView, Spawn}
-use Rattle.duct_system.specs.Journal.{JournalView, GivesEnds, IsRefused}
-use Rattle.duct_system.specs.Ledger.{count_of, spent_by}
-use Rattle.duct_system.specs.Origin.{origin}
-use Rattle.duct_system.specs.SpecView.{SpecView}
-use Rattle.duct_system.specs.Started.{child_by}
-use Rattle.duct_system.specs.Streams.{end_of, ends_of, stream_of}
-use Rattle.duct_system.specs.Trace.{trace}
-use Rattle.duct_system.specs.declared.error.Error.{Error}
-use Rattle.duct_system.specs.declared.error.Error.TheVariants.{System}
+use Rattle.duct_run.proofs.Common.{append-nil, nil_from_length, EntryView, Spawn, JournalView, GivesEnds, IsRefused, count_of, spent_by, origin, SpecView, child_by, end_of, ends_of, stream_of, trace, Error, System, Port, Fault, Stdio, Inherit, Null, End, Scope, State, PerStream, stack_after_ports, port_end_count, surroundings_by, IsAsked, origin_to, StoppedBy, Allows, Refuses, HooksChange, HooksStop, SpecWithStreams, hooks_by_origin, AreAlike, StopsAmongHooks, IsAlike, StoppedWithCause, HooksInvariant, stack_with_streams, resources_with_stack, asks_canonical_path, hooks_by_target, after_canonical_path, program_in, streams_in, port_streams, with_stack, IsAskedAt, IsSpawnedBy, pairs_in, program_at, text_in, Surroundings, Target, Parents, Nothing, ReaderAt, WriterAt, FileAt, Lends, ResourcesView, ends_of_pipes, Plan, with_item, program_of, IsGivenFrom, Pairwise, RunContext, GivesUnder, IsEarly, IsFrom, IsHookError, IsLater, HasOrigins, RunInvariant, StopInvariant, hooked, Item, AskCanonicalize, AskSpawn, count-append, trace-append}
 use Rattle.duct_system.specs.declared.error.Error.TheVariants as error
-use Rattle.duct_system.specs.declared.spec.Port.{Port}
 use Rattle.duct_system.specs.declared.spec.Stream.TheVariants as stream
-use Rattle.duct_system.specs.declared.system.Fault.{Fault}
-use Rattle.duct_system.specs.declared.system.Stdio.{Stdio}
-use Rattle.duct_system.specs.declared.system.Stdio.TheVariants.{Inherit, Null, End}
 use Rattle.duct_run.specs.Actions as action
-use Rattle.duct_run.specs.Actions.{Scope, State, PerStream, stack_after_ports, port_end_count, surroundings_by}
-use Rattle.duct_start.specs.Asked.{IsAsked, origin_to}
-use Rattle.duct_start.specs.Causes.{StoppedBy}
-use Rattle.duct_start.specs.Chain.{Allows, Refuses, HooksChange, HooksStop, SpecWithStreams, hooks_by_origin}
-use Rattle.duct_run.specs.Commands.{AreAlike, StopsAmongHooks, IsAlike, StoppedWithCause, HooksInvariant, stack_with_streams, resources_with_stack, asks_canonical_path, hooks_by_target, after_canonical_path, program_in, streams_in, port_streams, with_stack}
-use Rattle.duct_start.specs.Follows.{IsAskedAt, IsSpawnedBy, pairs_in, program_at, text_in}
-use Rattle.duct_start.specs.Surroundings.{Surroundings, Target, Parents, Nothing, ReaderAt, WriterAt, FileAt, Lends}
-use Rattle.duct_run.specs.ResourcesView.{ResourcesView, ends_of_pipes}
-use Rattle.duct_start.specs.Plan.{Plan, with_item, program_of}
-use Rattle.duct_start.specs.Sources.{IsGivenFrom, Pairwise}
-use Rattle.duct_run.specs.RunInvariant.{RunContext, GivesUnder, IsEarly, IsFrom, IsHookError, IsLater, HasOrigins, RunInvariant, StopInvariant, hooked}
-use Rattle.duct_start.specs.Step.{Item, AskCanonicalize, AskSpawn}
 use Rattle.duct_run.proofs.Chained.{chain_as, chain_stops_as, lends_lent, wired_as}
 use Rattle.duct_run.proofs.Changing.{alike_long, handed_long}
-use Rattle.duct_start.proofs.Counts.{count-append}
 use Rattle.duct_run.proofs.Fresh.{fresh_none}
 use Rattle.duct_run.proofs.Going.{adds_as}
-use Rattle.duct_start.proofs.Origins.{trace-append}
 use Rattle.duct_run.proofs.Sources.{known, pair_first, pair_second}
 use Rattle.duct_run.proofs.Stacks.{get_seam}
 use Rattle.duct_run.proofs.RunInvariant.{Changes, as_many, answers_front, few_of, sources_now, invariant_more, stops_more, stops_unasked}

@@ -1,8 +1,6 @@
 -- Depths of a stack, and lists of actions one after the other.
 use Rattle.std.proofs.Common.{◌≡◌, ℕ, suc, zero, ◌<◌, ◌≤◌, List, [], ◌∷◌, ◌++◌, length, refl, ap, sym, ◌∙◌, arith, subst, Some, slice_get, reverse}
-use Rattle.std.proofs.lemmas.List.{length-reverse, reverse-append}
-use Rattle.std.proofs.lemmas.Option.{slice_get_within}
-use Rattle.duct_run.specs.Actions.{Action, State, at_depth, pop_count, Needs, IsReady, AreReady, Leads, after_actions, advance}
+use Rattle.duct_run.proofs.Common.{length-reverse, reverse-append, slice_get_within, Action, State, at_depth, pop_count, Needs, IsReady, AreReady, Leads, after_actions, advance}
 
 pub get_seam : {A : Type 0} (xs : List A) (x : A) → slice_get (xs ++ x ∷ []) (length xs) ≡ Some x
 get_seam [] x = refl

@@ -1,11 +1,6 @@
 -- A run makes no request but closes after a request that was refused.
 use Rattle.std.proofs.Common.{◌≡◌, ℕ, List, [], ◌∷◌, ◌++◌, refl, sym, subst, append_assoc, map, Some, None, IfSome, Option}
-use Rattle.std.proofs.lemmas.List.{append-nil}
-use Rattle.duct_system.specs.EntryView.{EntryView, Close}
-use Rattle.duct_system.specs.Trace.{IsClean, StopsAtFault, OnlyCloses, fault_of}
-use Rattle.duct_system.specs.declared.error.Error.{Error}
-use Rattle.duct_system.specs.declared.system.Fault.{Fault}
-use Rattle.duct_run.specs.RunInvariant.{StopReason, unasked, hooked, refused}
+use Rattle.duct_run.proofs.Common.{append-nil, EntryView, Close, IsClean, StopsAtFault, OnlyCloses, fault_of, Error, Fault, StopReason, unasked, hooked, refused}
 
 if_none : (o : Option Fault) (P : Fault → Type 0) → o ≡ None → IfSome o P
 if_none None P is = tt

@@ -1,36 +1,14 @@
 -- One more action of a run's list, where the system returned these variables.
 use Rattle.std.proofs.Common.{◌≡◌, ℕ, ◌+◌, ◌<◌, ◌≤◌, List, [], ◌∷◌, ◌++◌, All, length, map, drop, get_or, suc, refl, ap, sym, ◌∙◌, arith, subst, None, Some, is_some, slice_get, option_map, option_to_list, Option}
-use Rattle.std.proofs.lemmas.List.{drop_all, get_or-map, length-map}
-use Rattle.std.proofs.lemmas.List.Elements.{All-get_or}
+use Rattle.duct_run.proofs.Common.{drop_all, get_or-map, length-map, All-get_or, ChildView, EntryView, JobView, unpolled_job, JournalView, Vars, trace, Error, Memory, Side, at_side, PerSide, Action, ActionOf, AreReady, Scope, State, advance, after_actions, pop_count, StoppedBy, Allows, Refuses, ActionSucceedsWith, StoppedWithCause, ActionFailsWith, ResourcesView, open_ends, AreNew, AreSame, HasSameWorkers, both, pipes_view, resources_view, stack_view, IsWithin, resolved, resolved_all, FindsItsEnds, RunContext, IsHookError, IsAllocationFailure, RunInvariant, ReadyForActions, GivesUnder, IsEarly, Item, action_view, actions_view, Resources}
 use Rattle.std.proofs.Math.Seq.{drop-cons}
-use Rattle.duct_system.specs.Child.{ChildView}
 use Rattle.duct_system.specs.Child as child_spec
-use Rattle.duct_system.specs.EntryView.{EntryView}
-use Rattle.duct_system.specs.Job.{JobView, unpolled_job}
-use Rattle.duct_system.specs.Journal.{JournalView}
-use Rattle.duct_system.specs.SpecView.{Vars}
-use Rattle.duct_system.specs.Trace.{trace}
-use Rattle.duct_system.specs.declared.error.Error.{Error}
-use Rattle.duct_system.specs.declared.error.Error.TheVariants.{Memory}
-use Rattle.duct_system.specs.declared.system.Side.{Side}
-use Rattle.duct_status.specs.PerSide.{at_side}
-use Rattle.duct_status.specs.declared.per_side.PerSide.{PerSide}
 use Rattle.duct_run.specs.Actions as action
-use Rattle.duct_run.specs.Actions.{Action, ActionOf, AreReady, Scope, State, advance, after_actions, pop_count}
-use Rattle.duct_start.specs.Causes.{StoppedBy}
-use Rattle.duct_start.specs.Chain.{Allows, Refuses}
-use Rattle.duct_run.specs.Commands.{ActionSucceedsWith, StoppedWithCause, ActionFailsWith}
-use Rattle.duct_run.specs.ResourcesView.{ResourcesView, open_ends, AreNew, AreSame, HasSameWorkers, both, pipes_view, resources_view, stack_view}
-use Rattle.duct_run.specs.ActionList.{IsWithin, resolved, resolved_all}
-use Rattle.duct_run.specs.RunInvariant.{FindsItsEnds, RunContext, IsHookError, IsAllocationFailure, RunInvariant, ReadyForActions, GivesUnder, IsEarly}
-use Rattle.duct_start.specs.Step.{Item}
 use Rattle.duct_run.proofs.Running.{can_now, memory_now, items_grow}
 use Rattle.duct_run.proofs.Spawning.{plain_refused}
 use Rattle.duct_run.proofs.Stacks.{get_front}
 use Rattle.duct_run.proofs.RunInvariant.{answers_front}
-use Rattle.duct_run.specs.ActionView.{action_view, actions_view}
 use Rattle.duct_run.specs.declared.action.Action as declared
-use Rattle.duct_run.specs.declared.resources.Resources.{Resources}
 use Rattle.duct_run.proofs.Pushed.{still}
 
 -- a mapped option has a value where the option has one

@@ -1,20 +1,7 @@
 -- A run that reached its end is a start that succeeds.
 use Rattle.std.proofs.Common.{◌≡◌, ℕ, ◌+◌, ◌*◌, ◌≤◌, List, [], ◌∷◌, ◌++◌, length, refl, ap, sym, ◌∙◌, arith, subst}
-use Rattle.std.proofs.lemmas.List.{append-nil}
-use Rattle.duct_system.specs.EntryView.{EntryView}
-use Rattle.duct_system.specs.Journal.{JournalView}
-use Rattle.duct_system.specs.Ledger.{IsBalanced, count_of}
-use Rattle.duct_system.specs.Trace.{IsClean, segment, trace}
-use Rattle.duct_run.specs.Actions.{State}
-use Rattle.duct_start.specs.Chain.{Allows}
-use Rattle.duct_start.specs.Follows.{AsksPlan, FollowsWhole}
-use Rattle.duct_run.specs.ResourcesView.{ResourcesView, open_ends}
-use Rattle.duct_start.specs.Plan.{Plan}
-use Rattle.duct_run.specs.RunInvariant.{AnswersUnder, RunContext, IsLater, RunInvariant}
-use Rattle.duct_start.specs.Start.{AreEarlier, GotNew, Grows, KeepsFewOpen, StartSucceeds, depth}
+use Rattle.duct_run.proofs.Common.{append-nil, EntryView, JournalView, IsBalanced, count_of, IsClean, segment, trace, State, Allows, AsksPlan, FollowsWhole, ResourcesView, open_ends, Plan, AnswersUnder, RunContext, IsLater, RunInvariant, AreEarlier, GotNew, Grows, KeepsFewOpen, StartSucceeds, depth, Item, TreeView}
 use Rattle.duct_run.proofs.Ceiling.{ceiling, ceiling_low}
-use Rattle.duct_start.specs.Step.{Item}
-use Rattle.duct_start.specs.TreeView.{TreeView}
 use Rattle.duct_run.proofs.Stopping.{clean_stops}
 use Rattle.duct_run.proofs.Sources.{exactly_answered, plan_asked}
 use Rattle.duct_run.proofs.RunInvariant.{as_many}

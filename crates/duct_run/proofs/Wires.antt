@@ -1,17 +1,8 @@
 -- Streams given by their targets, turned into streams given by the origins of a trace.
 use Rattle.std.proofs.Common.{◌≡◌, ℕ, ◌+◌, ◌≤◌, List, [], ◌∷◌, ◌++◌, length, refl, ap, ◌∙◌, arith, Some, map, unwrap_or}
-use Rattle.duct_system.specs.EntryView.{EntryView}
-use Rattle.duct_system.specs.Origin.{Origin, Opened}
-use Rattle.duct_system.specs.Streams.{end_of, stream_of}
-use Rattle.duct_system.specs.declared.spec.Port.{Port}
+use Rattle.duct_run.proofs.Common.{EntryView, Origin, Opened, end_of, stream_of, Port, Stream, In, Inherit, Null, End, Scope, PerStream, surroundings_by, stream_target, stack_after_ports, stack_after_port, port_end_count, port_in, origin_to, port_to, stream_to, streams_to, AreAlike, IsAlike, stack_with_streams, port_stream, port_streams, Target, target_of, Parents, Nothing, ReaderAt, WriterAt, FileAt, Lends}
 use Rattle.duct_system.specs.declared.spec.Port.TheVariants as port
-use Rattle.duct_system.specs.declared.spec.Stream.{Stream}
-use Rattle.duct_system.specs.declared.spec.Stream.TheVariants.{In, Out, Err}
-use Rattle.duct_system.specs.declared.system.Stdio.TheVariants.{Inherit, Null, End}
-use Rattle.duct_run.specs.Actions.{Scope, PerStream, surroundings_by, stream_target, stack_after_ports, stack_after_port, port_end_count, port_in}
-use Rattle.duct_start.specs.Asked.{origin_to, port_to, stream_to, streams_to}
-use Rattle.duct_run.specs.Commands.{AreAlike, IsAlike, stack_with_streams, port_stream, port_streams}
-use Rattle.duct_start.specs.Surroundings.{Target, target_of, Parents, Nothing, ReaderAt, WriterAt, FileAt, Lends}
+use Rattle.duct_system.specs.declared.spec.Stream.TheVariants.{Out, Err}
 
 -- what a port takes of a stack, put back on what it leaves, is the stack
 taken_less : {A : Type 0} (p : Port) (stack : List A) → port_end_count p ≤ length stack

@@ -1,15 +1,9 @@
 -- In the list of a tree, each command's scope is the root's or one of the listed scopes.
 use Rattle.std.proofs.Common.{ℕ, ◌+◌, ◌≤◌, List, [], ◌∷◌, ◌++◌, length, arith, length-append, None, Some, All, Option}
-use Rattle.std.proofs.lemmas.List.Elements.{All-append, All-cons, All-nil}
-use Rattle.duct_system.specs.declared.spec.Stream.{Stream}
-use Rattle.duct_system.specs.declared.spec.Stream.TheVariants.{In, Out, Err}
+use Rattle.duct_run.proofs.Common.{All-append, All-cons, All-nil, Stream, In, ActionOf, PerStream, StreamSource, parents, nothing, slot, captured, lent, source_actions, depth_inside, with_input, with_output, root_sources, ports_at, sources_inside, actions_around, IsWithin, list_of_subtree, list_of, next_index, scope_index, with_scope_entry, RowOpening, SettingView, opens_nothing, opens_input, opens_read, opens_create, opens_capture, row, TreeView, command, pipe, around}
+use Rattle.duct_system.specs.declared.spec.Stream.TheVariants.{Out, Err}
 use Rattle.duct_system.specs.declared.system.Side.TheVariants as side
 use Rattle.duct_run.specs.Actions as action
-use Rattle.duct_run.specs.Actions.{ActionOf, PerStream}
-use Rattle.duct_run.specs.Flat.{StreamSource, parents, nothing, slot, captured, lent, source_actions, depth_inside, with_input, with_output, root_sources, ports_at, sources_inside, actions_around}
-use Rattle.duct_run.specs.ActionList.{IsWithin, list_of_subtree, list_of, next_index, scope_index, with_scope_entry}
-use Rattle.duct_start.specs.Row.{RowOpening, SettingView, opens_nothing, opens_input, opens_read, opens_create, opens_capture, row}
-use Rattle.duct_start.specs.TreeView.{TreeView, command, pipe, around}
 
 module _ {E : Type 0} (count : ℕ) where
   abbrev P : ActionOf E ℕ → Type 0

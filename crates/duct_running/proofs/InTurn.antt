@@ -1,7 +1,7 @@
 -- A list whose items are changed one after the other, from the first on.
 use Rattle.std.specs.List.{AllZip}
 use Rattle.std.proofs.Common.{◌≡◌, ◌+◌, ◌≤◌, add-one, ap, sym, subst, arith, ℕ, zero, suc, List, [], ◌∷◌, length}
-use Rattle.duct_running.specs.Polled.{ChangedAt}
+use Rattle.duct_running.proofs.Common.{ChangedAt}
 
 -- this many items from the first on were changed, and the others are as before
 abbrev pub ChangedTo : {T : Type 0} → (T → T → Type 0) → ℕ → List T → List T → Type 0

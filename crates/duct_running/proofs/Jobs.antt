@@ -1,22 +1,12 @@
 -- One poll of a worker, and what it changes.
 use Rattle.std.proofs.Common.{◌≡◌, ◌<◌, refl, ap, sym, ◌∙◌, subst, arith, ℕ, zero, suc, Bool, true, false, List, [], ◌∷◌, map, length, get_or, set, slice_get, Some, Option}
-use Rattle.duct_system.specs.Child.{ChildView}
-use Rattle.duct_system.specs.Job.{JobView, PollsJob, kept_after}
-use Rattle.duct_system.specs.declared.system.Said.{Said}
+use Rattle.duct_running.proofs.Common.{ChildView, JobView, PollsJob, kept_after, Said, from_input, Latest, is_input_due, is_said_due, change_at, latest_after, awaited, shape_view, RunningView, SystemViews, WhileRuns, PolledIfRuns, IsPolled, ChangedAt, StreamPolled, is_awaited, Bytes, stored_in, stored_latest}
 use Rattle.duct_system.specs.declared.system.Said.TheVariants as said
 use Rattle.duct_system.specs.declared.system.Side.{Side}
 use Rattle.duct_system.specs.declared.system.Side.TheVariants as side
-use Rattle.duct_status.specs.EventView.{from_input}
-use Rattle.duct_status.specs.Latest.{Latest, is_input_due, is_said_due, change_at, latest_after}
-use Rattle.duct_status.specs.Outcome.{awaited}
 use Rattle.duct_status.specs.PerSide.{at_side, with_side}
-use Rattle.duct_status.specs.ShapeView.{shape_view}
 use Rattle.duct_status.specs.declared.per_side.PerSide.{PerSide}
 use Rattle.duct_status.specs.declared.status.Shape.{Shape}
-use Rattle.duct_start.specs.Running.{RunningView}
-use Rattle.duct_system.specs.SystemViews.{SystemViews}
-use Rattle.duct_running.specs.Polled.{WhileRuns, PolledIfRuns, IsPolled, ChangedAt, StreamPolled, is_awaited}
-use Rattle.duct_running.specs.Stored.{Bytes, stored_in, stored_latest}
 
 -- a worker whose word is Running is polled
 polled_while_runs : (kept : Said (Unit {0})) (P Q : Type 0) → is_said_due (Some kept) ≡ true → P

@@ -1,14 +1,8 @@
 -- A poll leaves the shape, the numbers and the orders as they were.
-use Rattle.std.specs.Prelude.{ℕ, Bool, true, false, List, [], ◌∷◌, map, MatchBool, MatchOption, Some, None}
+use Rattle.duct_running.proofs.Common.{MatchOption, Answer, ChildView, PollsChild, child_after, JobView, ExitStatus, Said, shape_view, RunningView, AllAsked, WhileRuns, IsPolled, AllPolled, IsThereAndPolled, Stays}
+use Rattle.std.specs.Prelude.{ℕ, Bool, true, false, List, [], ◌∷◌, map, MatchBool, Some, None}
 use Rattle.std.proofs.Common.{◌≡◌, refl, ap, ◌∙◌, option_map, Option}
-use Rattle.duct_system.specs.Child.{Answer, ChildView, PollsChild, child_after}
-use Rattle.duct_system.specs.Job.{JobView}
-use Rattle.duct_system.specs.declared.system.ExitStatus.{ExitStatus}
-use Rattle.duct_system.specs.declared.system.Said.{Said}
 use Rattle.duct_system.specs.declared.system.Said.TheVariants as said
-use Rattle.duct_status.specs.ShapeView.{shape_view}
-use Rattle.duct_start.specs.Running.{RunningView}
-use Rattle.duct_running.specs.Polled.{AllAsked, WhileRuns, IsPolled, AllPolled, IsThereAndPolled, Stays}
 
 module _ {X : Type 0} (part : ChildView → X)
     (alike : (answer : Answer) (child : ChildView) → part (child_after answer child) ≡ part child)

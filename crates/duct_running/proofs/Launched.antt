@@ -1,15 +1,9 @@
 -- What a start leaves running was never polled, and its children were given no order.
 use Rattle.std.proofs.Common.{◌≡◌, ap, sym, ◌∙◌, ℕ, Bool, List, [], ◌∷◌, ◌++◌, All, map, Some, None, option_to_list, Option}
-use Rattle.std.proofs.lemmas.List.Elements.{All-cons, All-head, All-nil, All-tail, All-weaker}
-use Rattle.duct_system.specs.Child.{IsUnasked}
+use Rattle.duct_running.proofs.Common.{All-cons, All-head, All-nil, All-tail, All-weaker, IsUnasked, JobView, unpolled_job, IsRunning, RunningView, SystemViews, IsUnordered, AreUnasked}
 use Rattle.duct_system.specs.EntryView.{EntryView}
-use Rattle.duct_system.specs.Job.{JobView, unpolled_job}
 use Rattle.duct_system.specs.Started.{feeds_in, drains_in}
-use Rattle.duct_start.specs.Running.{IsRunning, RunningView}
 use Rattle.duct_start.specs.TreeView.{TreeView}
-use Rattle.duct_system.specs.SystemViews.{SystemViews}
-use Rattle.duct_running.specs.Ordered.{IsUnordered}
-use Rattle.duct_running.specs.Stored.{AreUnasked}
 
 module _ {X T : Type 0} (view : X → JobView T) where
   abbrev IsUnpolled : X → Type 0

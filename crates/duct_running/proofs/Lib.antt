@@ -1,3 +1,4 @@
+pub mod Common
 pub mod InTurn
 pub mod Jobs
 pub mod Kept

@@ -1,8 +1,6 @@
 -- The numbers in the views of children and workers are their own.
 use Rattle.std.proofs.Common.{◌≡◌, refl, ap, ℕ, List, [], ◌∷◌, map, Some, None, option_map, Option}
-use Rattle.duct_system.specs.Child.{ChildView}
-use Rattle.duct_system.specs.Job.{JobView}
-use Rattle.duct_start.specs.Running.{RunningView}
+use Rattle.duct_running.proofs.Common.{ChildView, JobView, RunningView}
 use Rattle.duct_running.specs.NumbersView.{NumbersView, numbers_in}
 
 -- a view with these numbers

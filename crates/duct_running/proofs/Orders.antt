@@ -1,15 +1,9 @@
 -- One order to a child, and the orders to all children in turn, from the last one on.
-use Rattle.std.specs.Prelude.{ℕ, zero, suc, Bool, true, false, List, [], ◌∷◌, map, length, get_or, set, slice_get, MatchOption, Ok, Err, None}
+use Rattle.duct_running.proofs.Common.{MatchOption, ChildView, Obeyed, OrdersChild, JobView, Latest, is_due, is_word_due, Word, OrderedIfDue, AllOrdered, leftmost, ChangedAt, Bytes, stored_latest}
+use Rattle.std.specs.Prelude.{ℕ, zero, suc, Bool, true, false, List, [], ◌∷◌, map, length, get_or, set, slice_get, Ok, Err, None}
 use Rattle.std.specs.Result.{result_and}
 use Rattle.std.proofs.Common.{◌≡◌, ◌<◌, ◌≤◌, refl, ap, sym, ◌∙◌, subst, arith, inl, inr, Option}
-use Rattle.duct_system.specs.Child.{ChildView, Obeyed, OrdersChild}
-use Rattle.duct_system.specs.Job.{JobView}
 use Rattle.duct_system.specs.declared.system.Order.{Order}
-use Rattle.duct_status.specs.Latest.{Latest, is_due, is_word_due}
-use Rattle.duct_status.specs.declared.status.Word.{Word}
-use Rattle.duct_running.specs.Ordered.{OrderedIfDue, AllOrdered, leftmost}
-use Rattle.duct_running.specs.Polled.{ChangedAt}
-use Rattle.duct_running.specs.Stored.{Bytes, stored_latest}
 use Rattle.duct_running.proofs.Polls.{said, words, left_at, changed_at, same_at, within, no_ending, left_alone}
 
 module _ (may : ℕ → Order → Bool → Obeyed → Type 0) (order : Order) where

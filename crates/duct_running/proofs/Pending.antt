@@ -1,24 +1,13 @@
 -- Where a poll of an expression returns nothing yet, some child or worker may return that it runs.
-use Rattle.std.specs.Prelude.{ℕ, zero, suc, Bool, true, false, List, [], ◌∷◌, ◌++◌, map, length, slice_get, MatchBool, MatchOption, Ok, Err, Some, None}
+use Rattle.duct_running.proofs.Common.{MatchOption, length-map, Contains-append_left, Contains-append_right, Answer, ChildView, PollsChild, ending_after, JobView, kept_after, Said, bytes_said, OutcomeView, waits, faults, finished, AnswersOutcome, awaited, awaited_by, captured, command_said, ended, first_fault, in_tree_order, input_said, outcome, some_runs, with_bytes, ShapeView, command, pipe, input, unchecked, command_count, input_count, Word, SystemViews, AllAsked, AllPolled, AskedIfDue, Gives, IsOutcome, IsPolled, IsThereAndPolled, WhileRuns, is_awaited, Bytes, stored_latest, stored_word}
+use Rattle.std.specs.Prelude.{ℕ, zero, suc, Bool, true, false, List, [], ◌∷◌, ◌++◌, map, length, slice_get, MatchBool, Ok, Err, Some, None}
 use Rattle.std.proofs.Common.{◌≡◌, ◌+◌, ◌≤◌, ◌<◌, ◌⊎◌, refl, ap, sym, ◌∙◌, subst, arith, inl, inr, option_map, option_to_list, Option}
-use Rattle.std.proofs.lemmas.List.{length-map}
-use Rattle.std.proofs.lemmas.List.Elements.{Contains-append_left, Contains-append_right}
-use Rattle.duct_system.specs.Child.{Answer, ChildView, PollsChild, ending_after}
-use Rattle.duct_system.specs.Job.{JobView, kept_after}
 use Rattle.duct_system.specs.declared.system.Fault.{Fault}
-use Rattle.duct_system.specs.declared.system.Said.{Said}
 use Rattle.duct_system.specs.declared.system.Said.TheVariants as said
 use Rattle.duct_system.specs.declared.system.Side.TheVariants as side
 use Rattle.duct_status.specs.Endings.{Endings}
-use Rattle.duct_status.specs.EventView.{bytes_said}
-use Rattle.duct_status.specs.Outcome.{OutcomeView, waits, faults, finished, AnswersOutcome, awaited, awaited_by, captured, command_said, ended, first_fault, in_tree_order, input_said, outcome, some_runs, with_bytes}
 use Rattle.duct_status.specs.ReplyView.{ReplyView, noted, unknown, pending, faulted, answered, failed, no_memory}
-use Rattle.duct_status.specs.ShapeView.{ShapeView, command, pipe, input, unchecked, command_count, input_count}
-use Rattle.duct_status.specs.declared.status.Word.{Word}
 use Rattle.duct_status.specs.declared.status.Word.TheVariants as word
-use Rattle.duct_system.specs.SystemViews.{SystemViews}
-use Rattle.duct_running.specs.Polled.{AllAsked, AllPolled, AskedIfDue, Gives, IsOutcome, IsPolled, IsThereAndPolled, WhileRuns, is_awaited}
-use Rattle.duct_running.specs.Stored.{Bytes, stored_latest, stored_word}
 use Rattle.duct_running.specs.Allowed.{OneRuns, SomeSays}
 
 -- a poll returns nothing yet only where the outcome waits

@@ -1,14 +1,7 @@
 -- One poll of a child, and what it changes.
-use Rattle.std.specs.Prelude.{ℕ, zero, suc, true, false, List, [], ◌∷◌, map, length, get_or, set, slice_get, MatchOption, Ok, Err, Some, None}
+use Rattle.duct_running.proofs.Common.{MatchOption, Answer, ChildView, PollsChild, ending_after, JobView, from_command, Latest, is_due, is_word_due, word_after, change_at, latest_after, Word, ExitStatus, AskedIfDue, ChangedAt, Bytes, answer_word, stored_word, stored_latest}
+use Rattle.std.specs.Prelude.{ℕ, zero, suc, true, false, List, [], ◌∷◌, map, length, get_or, set, slice_get, Ok, Err, Some, None}
 use Rattle.std.proofs.Common.{◌≡◌, ◌<◌, refl, ap, sym, ◌∙◌, subst, arith, Option}
-use Rattle.duct_system.specs.Child.{Answer, ChildView, PollsChild, ending_after}
-use Rattle.duct_system.specs.Job.{JobView}
-use Rattle.duct_status.specs.EventView.{from_command}
-use Rattle.duct_status.specs.Latest.{Latest, is_due, is_word_due, word_after, change_at, latest_after}
-use Rattle.duct_status.specs.declared.status.Word.{Word}
-use Rattle.duct_system.specs.declared.system.ExitStatus.{ExitStatus}
-use Rattle.duct_running.specs.Polled.{AskedIfDue, ChangedAt}
-use Rattle.duct_running.specs.Stored.{Bytes, answer_word, stored_word, stored_latest}
 
 -- the word that a child stores
 abbrev pub said : ChildView → Word

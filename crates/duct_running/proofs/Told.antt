@@ -1,23 +1,13 @@
 -- After one more result, each stored result still is one that may be returned.
 use Rattle.std.proofs.Common.{◌≡◌, ◌<◌, ◌≤◌, refl, ap, sym, ◌∙◌, subst, arith, inl, inr, ℕ, zero, suc, Bool, List, [], ◌∷◌, ◌++◌, All, IfSome, map, length, get_or, set, Ok, Err, Some, None, option_map, option_to_list, Option, Vec, Global}
-use Rattle.std.proofs.lemmas.List.Elements.{All-cons, All-head, All-nil, All-tail}
+use Rattle.duct_running.proofs.Common.{All-cons, All-head, All-nil, All-tail, Answer, ChildView, IsUnasked, Obeyed, OrdersChild, PollsChild, child_after, child_ordered, ending_after, JobView, PollsJob, kept_after, unpolled_job, ExitStatus, Said, bytes_said, from_drain, Latest, latest_after, ShapeView, SystemViews, WhileRuns, AreUnasked, Bytes, stored_latest}
 use mathlib.Core.Logic.{∥∥₁_map}
-use Rattle.duct_system.specs.Child.{Answer, ChildView, IsUnasked, Obeyed, OrdersChild, PollsChild, child_after, child_ordered, ending_after}
-use Rattle.duct_system.specs.Job.{JobView, PollsJob, kept_after, unpolled_job}
-use Rattle.duct_system.specs.declared.system.ExitStatus.{ExitStatus}
 use Rattle.duct_system.specs.declared.system.Order.{Order}
-use Rattle.duct_system.specs.declared.system.Said.{Said}
 use Rattle.duct_system.specs.declared.system.Said.TheVariants as said
 use Rattle.duct_system.specs.declared.system.Side.{Side}
 use Rattle.duct_system.specs.declared.system.Side.TheVariants as side
-use Rattle.duct_status.specs.EventView.{bytes_said, from_drain}
-use Rattle.duct_status.specs.Latest.{Latest, latest_after}
 use Rattle.duct_status.specs.PerSide.{at_side, with_side}
 use Rattle.duct_status.specs.declared.per_side.PerSide.{PerSide}
-use Rattle.duct_status.specs.ShapeView.{ShapeView}
-use Rattle.duct_system.specs.SystemViews.{SystemViews}
-use Rattle.duct_running.specs.Polled.{WhileRuns}
-use Rattle.duct_running.specs.Stored.{AreUnasked, Bytes, stored_latest}
 use Rattle.duct_running.specs.RunningInvariant.{RunningInvariant}
 use Rattle.duct_running.specs.Allowed.{AnswersAllowed, WorkerResultAllowed, ChildAnswersAllowed}
 

@@ -2,18 +2,9 @@
 -- polled.
 use Rattle.std.specs.List.{range_with_len}
 use Rattle.std.proofs.Common.{◌≡◌, ◌+◌, refl, ap, sym, ◌∙◌, arith, ℕ, zero, suc, List, [], ◌∷◌, All, map, length, is_some, if◌then◌else◌, Some, None, option_map, option_to_list, Option}
-use Rattle.std.proofs.lemmas.List.Elements.{All-head, All-tail}
-use Rattle.duct_system.specs.Child.{Answer, ChildView, IsUnasked}
-use Rattle.duct_system.specs.Job.{JobView, unpolled_job}
+use Rattle.duct_running.proofs.Common.{All-head, All-tail, Answer, ChildView, IsUnasked, JobView, unpolled_job, ExitStatus, bytes_said, Latest, latest_told, ShapeView, command_count, input_count, Word, SystemViews, Bytes, AreUnasked, stored_word, stored_latest}
 use Rattle.duct_system.specs.declared.system.Said.TheVariants as said
-use Rattle.duct_system.specs.declared.system.ExitStatus.{ExitStatus}
-use Rattle.duct_status.specs.EventView.{bytes_said}
-use Rattle.duct_status.specs.Latest.{Latest, latest_told}
-use Rattle.duct_status.specs.ShapeView.{ShapeView, command_count, input_count}
-use Rattle.duct_status.specs.declared.status.Word.{Word}
 use Rattle.duct_status.specs.declared.status.Word.TheVariants as word
-use Rattle.duct_system.specs.SystemViews.{SystemViews}
-use Rattle.duct_running.specs.Stored.{Bytes, AreUnasked, stored_word, stored_latest}
 
 silent : (child : ChildView) → IsUnasked child → stored_word child.ending child.last ≡ word.Running
 silent child unasked = ap (λ (e : Option ExitStatus). stored_word e child.last) unasked.alive ∙ ap (λ (l : Option Answer). stored_word None l) unasked.silent

@@ -1,7 +1,6 @@
 -- Tasks of which one is changed, or one after the other.
 use Rattle.std.proofs.Common.{◌≡◌, ◌+◌, ◌<◌, ◌≤◌, ap, subst, arith, refl, ℕ, zero, suc, Bool, ◌||◌, true, false, List, [], ◌∷◌, length, get_or, set, sum_by}
-use Rattle.std.specs.List.{AllZip}
-use Rattle.std.proofs.lemmas.List.Sums.{get_or-le-sum_by, sum_by-set}
+use Rattle.duct_tasks.proofs.Common.{AllZip, get_or-le-sum_by, sum_by-set}
 
 pub changed : {T : Type 0} (f : T → ℕ) (before after : T) (at : ℕ) (tasks : List T)
     → before ≡ get_or tasks at before → at < length tasks

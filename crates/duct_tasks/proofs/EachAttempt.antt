@@ -2,9 +2,7 @@
 use Rattle.std.proofs.Common.{ℕ, ◌+◌, ◌≤◌, ◌≡◌, arith, List, [], ◌∷◌, ◌++◌, length, length-append, Bool, Ok, Err, IfOk, IfErr, inr, refl, subst, sym, false, ◌⊎◌, Result}
 use Rattle.std.proofs.lemmas.Fn.{FoldsTo-push}
 use Rattle.std.specs.Borrow.{MutBor}
-use Rattle.std.specs.Fn.{Shared}
-use Rattle.std.specs.List.{FoldsTo}
-use Rattle.duct_tasks.specs.Turns.{Attempts, FailsFor, FnReturnsAtPairMut}
+use Rattle.duct_tasks.proofs.Common.{Shared, FoldsTo, Attempts, FailsFor, FnReturnsAtPairMut}
 
 pub each_step : {P A : Type 0} (R Q : P → A → P → Type 0) →
     ((p : P) (x : A) (q : P) → R p x q → Q p x q)

@@ -1,22 +1,12 @@
 -- What was late, by the numbers of its journal.
 use Rattle.std.specs.declared.time.Duration.{Duration}
 use Rattle.std.proofs.Common.{◌≡◌, ◌∙◌, ap, refl, subst, sym, ℕ, List, ◌++◌, IfNone, IfSome, Some, None, map, option_map, option_to_list, Option}
-use Rattle.duct_base.specs.Pool.{PoolView}
+use Rattle.duct_tasks.proofs.Common.{PoolView, ShapeView, shape_view, Allows, RunningView, PoolGets, SystemViews, NumbersView, numbers_of, Bytes, Launched, Runs, StartKind, draining, drains_error, drains_output, Expression, HasNotEnded, IsStopped, LaunchStopped, MayRun, ReadsFirst, RunsAlike, Stops, seen}
 use Rattle.duct_system.specs.EntryView.{EntryView}
 use Rattle.duct_system.specs.Started.{drains_in}
-use Rattle.duct_status.specs.ShapeView.{ShapeView, shape_view}
-use Rattle.duct_start.specs.Chain.{Allows}
-use Rattle.duct_start.specs.Running.{RunningView}
 use Rattle.duct_start.specs.TreeView.{TreeView}
 use Rattle.duct_run.proofs.Leaving.{takes_in}
-use Rattle.duct_run.specs.Requested.{PoolGets}
-use Rattle.duct_system.specs.SystemViews.{SystemViews}
-use Rattle.duct_running.specs.NumbersView.{NumbersView, numbers_of}
-use Rattle.duct_running.specs.Stored.{Bytes}
 use Rattle.duct_handle.proofs.Beginning.{are_numbers}
-use Rattle.duct.specs.Launched.{Launched, Runs, StartKind, draining, drains_error, drains_output}
-use Rattle.duct.specs.declared.expression.Expression.{Expression}
-use Rattle.duct_tasks.specs.Until.{HasNotEnded, IsStopped, LaunchStopped, MayRun, ReadsFirst, RunsAlike, Stops, seen}
 use Rattle.duct_tasks.specs.declared.late.Late.{Late}
 
 -- what holds of what is there is kept by what follows from it

@@ -1,21 +1,8 @@
 -- How all tasks ended, once none runs.
 use Rattle.std.proofs.Common.{◌≡◌, ◌+◌, ◌<◌, ◌≤◌, ◌⊎◌, refl, ap, sym, ◌∙◌, subst, inl, inr, arith, ℕ, suc, Bool, true, false, List, [], ◌∷◌, ◌++◌, Contains, length, map, sum_by, Ok, Err, Some}
-use Rattle.std.proofs.lemmas.List.{append-nil, append_assoc, length-map, map-append}
-use Rattle.std.proofs.lemmas.List.Sums.{sum_by-cons}
-use Rattle.duct_base.specs.Pool.{PoolView, counted}
-use Rattle.duct_system.specs.declared.error.Error.{Error}
-use Rattle.duct_start.specs.Chain.{Allows, Refuses}
-use Rattle.duct_start.specs.Running.{RunningView}
-use Rattle.duct_system.specs.SystemViews.{SystemViews}
-use Rattle.duct_running.specs.Stored.{Bytes}
-use Rattle.duct.specs.declared.expression.Expression.{Expression}
-use Rattle.duct_tasks.specs.Until.{End}
-use Rattle.duct_tasks.specs.Turns.{AreEnds, EndsWith, Goes, GoesOn, InTurn, RanAll, Turn, failed_of}
+use Rattle.duct_tasks.proofs.Common.{append-nil, append_assoc, length-map, map-append, sum_by-cons, PoolView, counted, Error, Allows, Refuses, RunningView, SystemViews, Bytes, Expression, End, AreEnds, EndsWith, Goes, GoesOn, InTurn, RanAll, Turn, failed_of, Tasks, Task, Ended}
 use Rattle.duct_tasks.specs.declared.many.AtFailure.{AtFailure}
 use Rattle.duct_tasks.specs.declared.many.AtFailure.TheVariants.{GoOn, Wait, Stop}
-use Rattle.duct_tasks.specs.declared.many.Tasks.{Tasks}
-use Rattle.duct_tasks.specs.declared.task.Task.{Task}
-use Rattle.duct_tasks.specs.declared.task.Task.TheVariants.{Ended}
 
 -- one more of some ends
 pub one_more : {R : Type 0} (all left rest : List (Task R)) (ends : List End) (end : End) → left ≡

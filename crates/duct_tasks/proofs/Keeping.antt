@@ -2,22 +2,12 @@
 use Rattle.std.specs.declared.time.Duration.{Duration}
 use Rattle.std.proofs.Common.{◌≡◌, ◌+◌, ◌<◌, ◌≤◌, refl, ap, sym, ◌∙◌, subst, inl, inr, arith, ℕ, suc, Bool, true, false, if◌then◌else◌, length, IfNone, Some, None, Option}
 use Rattle.duct_base.proofs.Sieving.{counted_more}
-use Rattle.duct_base.specs.Pool.{PoolView, counted}
-use Rattle.duct_start.specs.Chain.{Allows, Refuses}
-use Rattle.duct_start.specs.Running.{RunningView}
-use Rattle.duct_system.specs.SystemViews.{SystemViews}
-use Rattle.duct_running.specs.NumbersView.{numbers_of}
-use Rattle.duct_running.specs.Stored.{Bytes}
-use Rattle.duct.specs.declared.expression.Expression.{Expression}
-use Rattle.duct_tasks.specs.Turns.{EndsWith, InSuccession, IsIdle, IsLast, IsWhy, Keeps, StoppedIf, Turn, WhyAfter, gives, is_stopped, last_of}
-use Rattle.duct_tasks.specs.Until.{End, HasPassed, RunsAlike}
+use Rattle.duct_tasks.proofs.Common.{PoolView, counted, Allows, Refuses, RunningView, SystemViews, numbers_of, Bytes, Expression, EndsWith, InSuccession, IsIdle, IsLast, IsWhy, Keeps, StoppedIf, Turn, WhyAfter, gives, is_stopped, last_of, End, HasPassed, RunsAlike, GaveUp, Stopped, Running}
 use Rattle.duct_tasks.specs.declared.keeper.Kept.{Kept}
 use Rattle.duct_tasks.specs.declared.keeper.Restarts.{Restarts}
 use Rattle.duct_tasks.specs.declared.keeper.Why.{Why}
-use Rattle.duct_tasks.specs.declared.keeper.Why.TheVariants.{GaveUp, Stopped}
 use Rattle.duct_tasks.specs.declared.once.Run.{Run}
 use Rattle.duct_tasks.specs.declared.once.Run.TheVariants as run
-use Rattle.duct_tasks.specs.declared.task.Task.TheVariants.{Running}
 use Rattle.duct_tasks.proofs.Turning.{began_on, ends_with}
 
 -- nothing runs after a run that leaves a further start

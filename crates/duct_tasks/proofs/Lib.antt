@@ -1,3 +1,4 @@
+pub mod Common
 pub mod Counting
 pub mod EachAttempt
 pub mod Ending

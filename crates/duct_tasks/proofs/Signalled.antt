@@ -1,20 +1,12 @@
 -- Children that are given orders, and are polled in between.
 use Rattle.std.specs.Prelude.{ℕ, pos, Bool, true, false, List, [], ◌∷◌, ◌++◌, All, map, is_some, MatchOption, Ok, Some, None}
 use Rattle.std.proofs.Common.{◌≡◌, refl, ap, sym, subst, inl, inr, option_map, Option}
-use Rattle.std.proofs.lemmas.List.Elements.{All-cons, All-head, All-nil, All-tail}
+use Rattle.duct_tasks.proofs.Common.{All-cons, All-head, All-nil, All-tail, Signal, shape_view, RunningView, SystemViews, AllAsked, PolledOnce, Bytes, HadOrders, HasOrders, IsSignalled, RunsAlike}
 use Rattle.duct_system.specs.Child.{Answer, ChildView, IsUnasked, Obeyed, OrdersChild, PollsChild, child_after, ending_after}
 use Rattle.duct_system.specs.Job.{JobView}
 use Rattle.duct_system.specs.declared.system.ExitStatus.{ExitStatus}
 use Rattle.duct_system.specs.declared.system.Order.{Order}
-use Rattle.duct_system.specs.declared.system.Order.TheVariants.{Signal}
-use Rattle.duct_status.specs.ShapeView.{shape_view}
-use Rattle.duct_start.specs.Running.{RunningView}
-use Rattle.duct_system.specs.SystemViews.{SystemViews}
 use Rattle.duct_running.specs.Ordered.{AllOrdered}
-use Rattle.duct_running.specs.Polled.{AllAsked, PolledOnce}
-use Rattle.duct_running.specs.Stored.{Bytes}
-use Rattle.duct_tasks.specs.Turns.{HadOrders, HasOrders}
-use Rattle.duct_tasks.specs.Until.{IsSignalled, RunsAlike}
 
 module _ (may : ℕ → Order → Bool → Obeyed → Type 0) where
   sent : (before after : ChildView) (answer : Obeyed) → before.orders ≡ []

@@ -2,14 +2,10 @@
 use Rattle.std.proofs.Common.{refl, ◌∙◌, inl}
 use Rattle.duct_system.specs.Child.{ChildView}
 use Rattle.duct_system.specs.Job.{JobView}
-use Rattle.duct_start.specs.Running.{RunningView}
-use Rattle.duct_system.specs.SystemViews.{SystemViews}
+use Rattle.duct_tasks.proofs.Common.{RunningView, SystemViews, Polled, ReturnsOutcome, Stays, StaysSame, Bytes, RunsAlike}
 use Rattle.duct_running.specs.Allowed.{StoresAllowed}
 use Rattle.duct_running.specs.Answered.{ReturnsConclusion}
-use Rattle.duct_running.specs.Polled.{Polled, ReturnsOutcome, Stays, StaysSame}
-use Rattle.duct_running.specs.Stored.{Bytes}
 use Rattle.duct_handle.proofs.Finishing.{was_concluded}
-use Rattle.duct_tasks.specs.Until.{RunsAlike}
 
 module _ {C F D V W : Type 0} {child : C → ChildView} {feed : F → JobView V} {drain : D → JobView W}
   where

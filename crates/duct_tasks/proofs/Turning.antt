@@ -1,27 +1,11 @@
 -- Turns of tasks, of which one is added, or has gone on, or those that run are sent signal 15.
 use Rattle.std.proofs.Common.{◌≡◌, ◌+◌, ◌<◌, refl, ap, sym, ◌∙◌, subst, inl, inr, arith, ℕ, zero, suc, Bool, true, false, if◌then◌else◌, List, [], ◌∷◌, ◌++◌, length, Ok, Err, Some, None, get_or, set, Option}
-use Rattle.std.specs.List.{AllZip}
-use Rattle.std.proofs.lemmas.List.{length-map}
+use Rattle.duct_tasks.proofs.Common.{AllZip, length-map, PoolView, counted, Error, ShapeView, Allows, Refuses, RunningView, SystemViews, NumbersView, numbers_of, Bytes, LaunchRefused, Launched, Runs, added_between, draining, drains_error, drains_output, tree_view, Expression, Advances, Began, EndsWith, Goes, InTurn, IsLast, Turn, gives, End, RunsAlike, Task, Running, Ended}
 use Rattle.duct_base.proofs.Sieving.{counted_more}
-use Rattle.duct_base.specs.Pool.{PoolView, counted}
 use Rattle.duct_system.specs.Started.{children_in}
-use Rattle.duct_system.specs.declared.error.Error.{Error}
-use Rattle.duct_status.specs.ShapeView.{ShapeView}
-use Rattle.duct_start.specs.Chain.{Allows, Refuses}
-use Rattle.duct_start.specs.Running.{RunningView}
-use Rattle.duct_system.specs.SystemViews.{SystemViews}
-use Rattle.duct_running.specs.NumbersView.{NumbersView, numbers_of}
-use Rattle.duct_running.specs.Stored.{Bytes}
 use Rattle.duct_handle.proofs.Beginning.{are_numbers}
 use Rattle.duct_handle.specs.Started.{AreNumbers}
-use Rattle.duct.specs.Launched.{LaunchRefused, Launched, Runs, added_between, draining, drains_error, drains_output}
-use Rattle.duct.specs.TreeView.{tree_view}
-use Rattle.duct.specs.declared.expression.Expression.{Expression}
 use Rattle.duct_tasks.proofs.Signalled.{no_orders}
-use Rattle.duct_tasks.specs.Turns.{Advances, Began, EndsWith, Goes, InTurn, IsLast, Turn, gives}
-use Rattle.duct_tasks.specs.Until.{End, RunsAlike}
-use Rattle.duct_tasks.specs.declared.task.Task.{Task}
-use Rattle.duct_tasks.specs.declared.task.Task.TheVariants.{Running, Ended}
 
 module _ {S T A : Type 0} (IsTurn : T → A → ℕ → S → S → Type 0) where
   -- one more task had its turn

@@ -1,5 +1,5 @@
 use Rattle.std.proofs.Common.{map, arith, subst}
-use Rattle.duct_guard.specs.Held.{HasEnded}
+use Rattle.duct_guard.proofs.Common.{HasEnded}
 use Rattle.duct_guard.proofs.Crews.{one_left, read_twice}
 use Rattle.duct_guard.proofs.crew.forget_ended.Goals as goal
 

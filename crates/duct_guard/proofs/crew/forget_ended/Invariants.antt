@@ -1,6 +1,6 @@
 -- All children are there but those that have ended.
 use Rattle.std.proofs.Common.{map, ◌-◌, vec_len}
-use Rattle.duct_guard.specs.Held.{Leaves}
+use Rattle.duct_guard.proofs.Common.{Leaves}
 use Rattle.duct_guard.proofs.crew.forget_ended.Given as goal
 
 abbrev pub invariant-loop-place : goal.invariant-loop-place

@@ -1,10 +1,6 @@
 use Rattle.std.proofs.Common.{rules, tests, ap, map, refl, string_bytes, sym, ◌∙◌}
-use Rattle.std.specs.List.{list_all}
+use Rattle.duct_guard.proofs.Common.{list_all, all_from_yields_List, list_all-map, pair_text, var_view, is_kept}
 use Rattle.std.proofs.lemmas.Iterator.Consumers.{YieldsList-from_rest}
-use Rattle.std.proofs.lemmas.Iterator.Search.{all_from_yields_List}
-use Rattle.std.proofs.lemmas.List.Folds.{list_all-map}
-use Rattle.duct_system.specs.SpecView.{pair_text, var_view}
-use Rattle.duct_guard.specs.Policies.{is_kept}
 use Rattle.duct_guard.proofs.policies.adds_none.Goals as goal
 
 pub returns : goal.returns

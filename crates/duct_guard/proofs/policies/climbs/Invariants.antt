@@ -1,8 +1,7 @@
 -- What is left of the names decides.
 use Rattle.std.proofs.Common.{◌≡◌, bytes_eq}
-use Rattle.std.specs.List.{list_any}
+use Rattle.duct_guard.proofs.Common.{list_any, climbs}
 use Rattle.std.specs.Path.{components_remaining, parent_dir}
-use Rattle.duct_guard.specs.Policies.{climbs}
 use Rattle.duct_guard.proofs.policies.climbs.Given as goal
 
 abbrev pub invariant-loop-component : goal.invariant-loop-component

@@ -1,9 +1,6 @@
 use Rattle.std.proofs.Common.{rules, tests, ap, refl, ◌∙◌}
-use Rattle.std.specs.List.{list_any}
+use Rattle.duct_guard.proofs.Common.{list_any, any_from_yields_List, var_view, is_variable}
 use Rattle.std.proofs.lemmas.Iterator.Consumers.{YieldsList-from_rest}
-use Rattle.std.proofs.lemmas.Iterator.Search.{any_from_yields_List}
-use Rattle.duct_system.specs.SpecView.{var_view}
-use Rattle.duct_guard.specs.Policies.{is_variable}
 use Rattle.duct_guard.proofs.Prefixes.{any_seen}
 use Rattle.duct_guard.proofs.policies.has_value.Goals as goal
 

@@ -1,6 +1,6 @@
 use Rattle.std.specs.Path.{path_bytes, path_components}
 use Rattle.std.proofs.Common.{ap, rules, tests, ◌≡◌, ◌∙◌, bytes_eq}
-use Rattle.std.specs.List.{starts_with}
+use Rattle.duct_guard.proofs.Common.{starts_with}
 use Rattle.duct_guard.proofs.Prefixes.{prefix_test}
 use Rattle.duct_guard.proofs.policies.is_below.Goals as goal
 

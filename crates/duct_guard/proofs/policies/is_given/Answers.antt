@@ -1,8 +1,5 @@
 use Rattle.std.proofs.Common.{rules, tests, ◌∙◌}
-use Rattle.std.proofs.lemmas.Iterator.{YieldsList-from_slice}
-use Rattle.std.proofs.lemmas.Iterator.Search.{any_from_yields_List}
-use Rattle.duct_system.specs.SpecView.{pair_text}
-use Rattle.duct_guard.specs.Policies.{is_variable}
+use Rattle.duct_guard.proofs.Common.{YieldsList-from_slice, any_from_yields_List, pair_text, is_variable}
 use Rattle.duct_guard.proofs.Prefixes.{any_seen}
 use Rattle.duct_guard.proofs.policies.is_given.Goals as goal
 

@@ -1,6 +1,5 @@
 use Rattle.std.proofs.Common.{rules, tests, ◌∙◌, bytes_eq, string_bytes}
-use Rattle.std.proofs.lemmas.Iterator.{YieldsList-from_slice}
-use Rattle.std.proofs.lemmas.Iterator.Search.{any_from_yields_List}
+use Rattle.duct_guard.proofs.Common.{YieldsList-from_slice, any_from_yields_List}
 use Rattle.duct_guard.proofs.Prefixes.{any_seen}
 use Rattle.duct_guard.proofs.policies.is_listed.Goals as goal
 

@@ -1,9 +1,5 @@
 use Rattle.std.proofs.Common.{rules, tests, map, string_bytes, sym, ◌∙◌}
-use Rattle.std.proofs.lemmas.Iterator.{YieldsList-from_slice}
-use Rattle.std.proofs.lemmas.Iterator.Search.{all_from_yields_List}
-use Rattle.std.proofs.lemmas.List.Folds.{list_all-map}
-use Rattle.duct_system.specs.SpecView.{pair_text}
-use Rattle.duct_guard.specs.Policies.{is_kept}
+use Rattle.duct_guard.proofs.Common.{YieldsList-from_slice, all_from_yields_List, list_all-map, pair_text, is_kept}
 use Rattle.duct_guard.proofs.policies.misses_none.Goals as goal
 
 pub returns : goal.returns

@@ -1,5 +1,5 @@
 use Rattle.std.proofs.Common.{◌≡◌, ◌+◌, ◌&&◌, true, false, nat_le, refl, sym, ◌∙◌}
-use Rattle.duct_guard.specs.GuardView.{asked_of}
+use Rattle.duct_guard.proofs.Common.{asked_of}
 use Rattle.duct_guard.proofs.Guarding.{end_answered, end_forbidden}
 use Rattle.duct_guard.proofs.requests.end_allowed.Goals.{else-allows-via-then-allows+else-allows_ends, else-allows-via-else-allows}
 use Rattle.duct_guard.proofs.requests.end_allowed.Goals as goal

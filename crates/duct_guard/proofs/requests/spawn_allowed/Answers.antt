@@ -1,9 +1,6 @@
 -- A spawn that was passed on, and one whose ends were closed.
 use Rattle.std.proofs.Common.{ap, arith, sym, subst, length, map, vec_len, inl, inr, Ok, Err}
-use Rattle.duct_system.specs.EntryView.{Spawn}
-use Rattle.duct_system.specs.Journal.{IsRefused}
-use Rattle.duct_system.specs.Streams.{stream_of, ends_of}
-use Rattle.duct_guard.specs.GuardView.{ClosesFirst}
+use Rattle.duct_guard.proofs.Common.{Spawn, IsRefused, stream_of, ends_of, ClosesFirst}
 use Rattle.duct_guard.proofs.Closing.{ends_numbered, streams_count}
 use Rattle.duct_guard.proofs.Crews.{few_left, joins_crew}
 use Rattle.duct_guard.proofs.Guarding.{child_answered, child_refused}

@@ -1,7 +1,6 @@
 use Rattle.std.proofs.Common.{refl, Result}
 use Rattle.std.specs.Arc.{arc_value}
-use Rattle.duct_system.specs.EntryView.{Feed}
-use Rattle.duct_system.specs.declared.system.Fault.{Fault}
+use Rattle.duct_guard.proofs.Common.{Feed, Fault}
 use Rattle.duct_guard.proofs.Guarding.{one_closed, worker_answered}
 use Rattle.duct_guard.proofs.requests.start_shared_feed.Goals as goal
 

@@ -1,6 +1,5 @@
 use Rattle.duct_run.proofs.Seeing.{views_of}
-use Rattle.duct.specs.Launched.{Fails, Returns, draining}
-use Rattle.duct_guard.specs.Under.{guard_views}
+use Rattle.duct_guard.proofs.Common.{Fails, Returns, draining, guard_views}
 use Rattle.duct_guard.proofs.Reading.{done, grows, left_of, never_cleared}
 use Rattle.duct_guard.proofs.under.run_fixed.Goals as goal
 

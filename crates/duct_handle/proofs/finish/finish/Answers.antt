@@ -1,4 +1,4 @@
-use Rattle.duct_run.proofs.Seeing.{views_of}
+use Rattle.duct_handle.proofs.Common.{views_of}
 use Rattle.duct_handle.proofs.Finishing.{finished, stopped}
 use Rattle.duct_handle.proofs.finish.finish.Goals as goal
 

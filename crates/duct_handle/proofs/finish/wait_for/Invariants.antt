@@ -1,5 +1,5 @@
 -- What is polled keeps the numbers that it had at first.
-use Rattle.duct_running.specs.Polled.{Stays}
+use Rattle.duct_handle.proofs.Common.{Stays}
 use Rattle.duct_handle.proofs.finish.wait_for.Given as goal
 
 abbrev pub invariant-loop : goal.invariant-loop

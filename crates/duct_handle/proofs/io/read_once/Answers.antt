@@ -1,7 +1,5 @@
 use Rattle.std.proofs.Common.{◌≡◌, Ok}
-use Rattle.duct_status.specs.ShapeView.{shape_view}
-use Rattle.duct_run.proofs.Seeing.{views_of}
-use Rattle.duct_running.specs.Answered.{IsAnswer}
+use Rattle.duct_handle.proofs.Common.{shape_view, views_of, IsAnswer}
 use Rattle.duct_handle.proofs.Closing.{closes_once, reads_once}
 use Rattle.duct_handle.proofs.io.read_once.Goals as goal
 

@@ -1,9 +1,5 @@
 use Rattle.std.proofs.Common.{◌≡◌, ◌∙◌, ap, map, refl, rules, subst, sym, inr, to_z, of_z, w32}
-use mathlib.Core.Logic.{∥∥₁_map}
-use Rattle.duct_system.specs.declared.system.Order.TheVariants.{Signal}
-use Rattle.duct_run.proofs.Seeing.{views_of}
-use Rattle.duct_running.specs.NumbersView.{NumbersView}
-use Rattle.duct_handle.specs.Obeyed.{IsObeyed, IsOrderedOnce}
+use Rattle.duct_handle.proofs.Common.{∥∥₁_map, Signal, views_of, NumbersView, IsObeyed, IsOrderedOnce}
 use Rattle.duct_handle.proofs.Obeying.{order_obeyed}
 use Rattle.duct_handle.proofs.orders.ordered.Goals as goal
 

@@ -1,11 +1,7 @@
 -- A poll of what has this shape and these numbers.
 use Rattle.std.proofs.Common.{◌≡◌, ap, inl, subst, ◌∙◌, rules, Ok, Err, Some, None}
 use Rattle.duct_system.specs.declared.error.Error.TheVariants as error
-use Rattle.duct_status.specs.ShapeView.{shape_view}
-use Rattle.duct_run.proofs.Seeing.{views_of}
-use Rattle.duct_running.specs.Allowed.{OneRuns}
-use Rattle.duct_running.specs.Answered.{IsConcludedPoll}
-use Rattle.duct_running.specs.NumbersView.{numbers_of, numbers_view}
+use Rattle.duct_handle.proofs.Common.{shape_view, views_of, OneRuns, IsConcludedPoll, numbers_of, numbers_view}
 use Rattle.duct_handle.proofs.Polling.{failure_concluded, output_concluded}
 use Rattle.duct_handle.proofs.poll.poll_checked.Goals as goal
 

@@ -1,4 +1,4 @@
-use Rattle.duct_run.proofs.Seeing.{views_of}
+use Rattle.duct_handle.proofs.Common.{views_of}
 use Rattle.duct_handle.proofs.Reading.{no_text}
 use Rattle.duct_handle.proofs.read.read_all.Goals as goal
 

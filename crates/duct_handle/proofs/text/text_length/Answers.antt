@@ -1,5 +1,5 @@
 use Rattle.std.proofs.Common.{◌≡◌, ◌∙◌, ◌++◌, List, ℕ, [], ◌∷◌, true, false, ap, sym, length, take}
-use Rattle.duct_handle.specs.ReadsText.{is_line_end, trimmed}
+use Rattle.duct_handle.proofs.Common.{is_line_end, trimmed}
 use Rattle.duct_handle.proofs.Trimming.{one_more, take_front, trimmed_end, trimmed_whole}
 use Rattle.duct_handle.proofs.text.text_length.Goals as goal
 

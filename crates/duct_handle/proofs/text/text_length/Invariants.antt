@@ -1,6 +1,6 @@
 -- All bytes taken off the end are line ends.
 use Rattle.std.proofs.Common.{◌≡◌, ℕ, List, ◌++◌, length}
-use Rattle.duct_handle.specs.ReadsText.{trimmed}
+use Rattle.duct_handle.proofs.Common.{trimmed}
 use Rattle.duct_handle.proofs.text.text_length.Given as goal
 
 abbrev pub invariant-loop-last : goal.invariant-loop-last

@@ -1,7 +1,6 @@
 -- The words so far are the program and the arguments so far.
-use Rattle.std.specs.Arc.{arc_value}
+use Rattle.duct_run.proofs.Common.{arc_value, program_text}
 use Rattle.std.proofs.Common.{map, ◌≡◌, ◌∷◌, string_bytes, take}
-use Rattle.duct_run.specs.Made.{program_text}
 use Rattle.duct_run.proofs.asked.words_with.Given as goal
 
 abbrev pub invariant-loop-argument : goal.invariant-loop-argument

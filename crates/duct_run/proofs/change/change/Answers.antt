@@ -1,10 +1,7 @@
-use Rattle.std.proofs.lemmas.Result.{err_from_is_err_and}
+use Rattle.duct_run.proofs.Common.{err_from_is_err_and, stream_of, HookMakes, streams_view}
 use Rattle.std.proofs.Common.{sym, ◌∙◌}
-use Rattle.duct_system.specs.Streams.{stream_of}
-use Rattle.duct_start.specs.Chain.{HookMakes}
 use Rattle.duct_run.proofs.Changing.{alters_one, breaks_end, breaks_error, breaks_fault, breaks_input, breaks_output}
 use Rattle.duct_run.proofs.Redirecting.{redirects_at}
-use Rattle.duct_run.specs.StreamsView.{streams_view}
 use Rattle.duct_run.proofs.change.change.Goals as goal
 
 pub returns-in-Err-clause-err : goal.returns-in-Err-clause-err

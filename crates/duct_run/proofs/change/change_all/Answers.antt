@@ -1,8 +1,6 @@
 -- The hook outside of the remaining ones runs next.
 use Rattle.std.proofs.Common.{◌≡◌, ◌++◌, ◌∷◌, [], ap, sym, ◌∙◌, refl, append_assoc, arith}
-use Rattle.std.proofs.lemmas.Result.{err_from_is_err_and}
-use Rattle.duct_run.specs.Settings.{hooks_of}
-use Rattle.duct_run.specs.StreamsView.{streams_view}
+use Rattle.duct_run.proofs.Common.{err_from_is_err_and, hooks_of, streams_view}
 use Rattle.duct_run.proofs.Changing.{alters_append, alters_none, breaks_as, breaks_first, breaks_more}
 use Rattle.duct_run.proofs.Setting.{hooks_of-more}
 use Rattle.duct_run.proofs.change.change_all.Goals as goal

@@ -1,8 +1,6 @@
 -- The hooks that have run and the remaining ones are all hooks.
 use Rattle.std.proofs.Common.{◌≡◌, ◌≤◌, ◌+◌, ◌++◌, List, vec_len}
-use Rattle.duct_run.specs.Commands.{HooksSucceed}
-use Rattle.duct_run.specs.Settings.{hooks_of}
-use Rattle.duct_run.specs.StreamsView.{many_ends, streams_view}
+use Rattle.duct_run.proofs.Common.{HooksSucceed, hooks_of, many_ends, streams_view}
 use Rattle.duct_run.proofs.change.change_all.Given as goal
 
 abbrev pub invariant-loop-hook : goal.invariant-loop-hook

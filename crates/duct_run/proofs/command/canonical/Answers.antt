@@ -1,9 +1,6 @@
-use Rattle.std.specs.Arc.{arc_value}
+use Rattle.duct_run.proofs.Common.{arc_value, Canonicalize, Asks, asks_canonical_path}
 use Rattle.std.proofs.Common.{◌≡◌, ap, sym, ◌∙◌, subst, map, string_bytes, true, Ok, is_some, Some, None, Bor, refl, option_copied, Option}
 use Rattle.duct_base.specs.Executable.{asks_canonical}
-use Rattle.duct_system.specs.EntryView.{Canonicalize}
-use Rattle.duct_system.specs.Journal.{Asks}
-use Rattle.duct_run.specs.Commands.{asks_canonical_path}
 use Rattle.duct_run.proofs.Commanding.{names_some}
 use Rattle.duct_run.proofs.command.canonical.Goals as goal
 

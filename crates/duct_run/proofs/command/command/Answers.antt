@@ -1,16 +1,7 @@
 -- The spawn of a command, or what makes it fail.
-use Rattle.std.specs.Arc.{arc_value}
-use Rattle.std.proofs.lemmas.Result.{err_from_is_err_and}
+use Rattle.duct_run.proofs.Common.{arc_value, err_from_is_err_and, IsUnasked, pair_text, port_end_count, HooksSucceed, HooksFail, ends_of_pipes, resources_view, scope_in, ports_view, scopes_view, many_ends, streams_view}
 use Rattle.std.proofs.Common.{◌≡◌, ◌+◌, ◌≤◌, ap, sym, ◌∙◌, subst, arith, rules, length, map, string_bytes, length-append, ◌++◌, ◌∷◌, []}
-use Rattle.duct_system.specs.Child.{IsUnasked}
-use Rattle.duct_system.specs.SpecView.{pair_text}
-use Rattle.duct_run.specs.Actions.{port_end_count}
-use Rattle.duct_run.specs.Commands.{HooksSucceed, HooksFail}
-use Rattle.duct_run.specs.ResourcesView.{ends_of_pipes, resources_view}
-use Rattle.duct_run.specs.ActionList.{scope_in}
 use Rattle.duct_run.proofs.Commanding.{hooks_refused, spawn_refused, spawned}
-use Rattle.duct_run.specs.ActionView.{ports_view, scopes_view}
-use Rattle.duct_run.specs.StreamsView.{many_ends, streams_view}
 use Rattle.duct_run.proofs.Made.{made_is_asked}
 use Rattle.duct_run.proofs.Pushed.{all_pushed, hand_fits, length_stack, many_given, many_spent, min_fits, pushed_number}
 use Rattle.duct_run.proofs.command.command.Goals as goal

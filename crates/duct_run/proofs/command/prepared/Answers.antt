@@ -1,15 +1,8 @@
 -- What is asked for before a command, or what makes that fail.
-use Rattle.std.specs.Arc.{arc_value}
-use Rattle.std.proofs.lemmas.Result.{err_from_is_err_and}
+use Rattle.duct_run.proofs.Common.{arc_value, err_from_is_err_and, pair_text, scope_in, ports_view, scopes_view, changes_of, program_text, variable}
 use Rattle.std.proofs.Common.{ap, ◌∙◌, map, string_bytes}
-use Rattle.duct_system.specs.SpecView.{pair_text}
-use Rattle.duct_run.specs.ActionList.{scope_in}
 use Rattle.duct_run.proofs.Commanding.{name_refused, spec_refused, unasked_refused}
-use Rattle.duct_run.specs.ActionView.{ports_view, scopes_view}
-use Rattle.duct_run.specs.Settings.{changes_of}
-use Rattle.duct_run.specs.Made.{program_text}
 use Rattle.duct_run.proofs.Setting.{changes_found, folder_found, hooks_found}
-use Rattle.duct_start.specs.Surroundings.{variable}
 use Rattle.duct_run.proofs.Pushed.{still}
 use Rattle.duct_run.proofs.command.prepared.Goals as goal
 

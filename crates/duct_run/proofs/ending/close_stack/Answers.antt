@@ -1,8 +1,6 @@
 -- One more end is closed.
 use Rattle.std.proofs.Common.{◌∷◌, [], ℕ, List, arith, sym, subst, map}
-use Rattle.std.proofs.lemmas.Grind.{common_steps}
-use Rattle.std.proofs.lemmas.List.{map-append}
-use Rattle.duct_run.specs.GivesUp.{Closes}
+use Rattle.duct_run.proofs.Common.{common_steps, map-append, Closes}
 use Rattle.duct_run.proofs.Closes.{closes_next}
 use Rattle.duct_run.proofs.ending.close_stack.Goals as goal
 

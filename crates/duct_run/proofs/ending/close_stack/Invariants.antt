@@ -1,7 +1,7 @@
 -- The ends closed so far and the remaining ones are the stack.
 use Rattle.std.proofs.Common.{◌≡◌, ◌++◌, length, map}
 use Rattle.std.specs.Vec.Iter.{into_iter_items, into_iter_len}
-use Rattle.duct_run.specs.GivesUp.{Closes}
+use Rattle.duct_run.proofs.Common.{Closes}
 use Rattle.duct_run.proofs.ending.close_stack.Given as goal
 
 abbrev pub invariant-loop-end : goal.invariant-loop-end

@@ -1,6 +1,6 @@
 -- One more child is given.
 use Rattle.std.proofs.Common.{arith}
-use Rattle.std.proofs.lemmas.Grind.{common_steps}
+use Rattle.duct_run.proofs.Common.{common_steps}
 use Rattle.duct_base.proofs.Taking.{given_next}
 use Rattle.duct_run.proofs.ending.give_all.Goals as goal
 

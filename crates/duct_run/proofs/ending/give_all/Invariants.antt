@@ -1,7 +1,7 @@
 -- The children given so far and the remaining ones are all children.
 use Rattle.std.proofs.Common.{◌≡◌, ◌++◌, length}
 use Rattle.std.specs.Vec.Iter.{into_iter_items, into_iter_len}
-use Rattle.duct_base.specs.Pool.{IsGiven}
+use Rattle.duct_run.proofs.Common.{IsGiven}
 use Rattle.duct_run.proofs.ending.give_all.Given as goal
 
 abbrev pub invariant-loop-child : goal.invariant-loop-child

@@ -1,5 +1,4 @@
-use Rattle.std.proofs.lemmas.Result.{err_from_is_err_and}
-use Rattle.duct_run.specs.ResourcesView.{pipe_view, resources_view}
+use Rattle.duct_run.proofs.Common.{err_from_is_err_and, pipe_view, resources_view}
 use Rattle.std.proofs.Common.{ap, refl, sym, ◌∙◌, Some}
 use Rattle.duct_run.proofs.Captured.{capture_succeeds, capture_fails}
 use Rattle.duct_run.proofs.PerSide.{pipe_at, pipes_with}

@@ -1,5 +1,5 @@
 use Rattle.std.proofs.Common.{rules}
-use Rattle.duct_run.specs.ResourcesView.{resources_view, stack_view}
+use Rattle.duct_run.proofs.Common.{resources_view, stack_view}
 use Rattle.duct_run.proofs.Going.{close_succeeds}
 use Rattle.duct_run.proofs.Pushed.{pushed}
 use Rattle.duct_run.proofs.Requesting.{goes_on}

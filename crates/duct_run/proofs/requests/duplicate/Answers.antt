@@ -1,5 +1,4 @@
-use Rattle.std.proofs.lemmas.Result.{err_from_is_err_and}
-use Rattle.duct_run.specs.ResourcesView.{resources_view}
+use Rattle.duct_run.proofs.Common.{err_from_is_err_and, resources_view}
 use Rattle.duct_run.specs.Actions as action
 use Rattle.std.proofs.Common.{rules, refl}
 use Rattle.duct_run.proofs.Pushed.{item_at_depth, pushed, goes_over}

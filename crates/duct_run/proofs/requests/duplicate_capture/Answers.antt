@@ -1,5 +1,4 @@
-use Rattle.std.proofs.lemmas.Result.{err_from_is_err_and}
-use Rattle.duct_run.specs.ResourcesView.{pipe_view, resources_view}
+use Rattle.duct_run.proofs.Common.{err_from_is_err_and, pipe_view, resources_view}
 use Rattle.duct_run.specs.Actions as action
 use Rattle.std.proofs.Common.{ap, refl, rules, sym, ◌∙◌}
 use Rattle.duct_run.proofs.Going.{duplicate_fails, tap_succeeds}

@@ -1,10 +1,6 @@
-use Rattle.std.proofs.lemmas.Result.{err_from_is_err_and}
+use Rattle.duct_run.proofs.Common.{err_from_is_err_and, arc_value, unpolled_job, AskFeed, resources_view, stack_view}
 use Rattle.std.proofs.Common.{rules, refl, ap, ◌∙◌, ◌≡◌, List, ℕ, ◌++◌, ◌∷◌, []}
-use Rattle.std.specs.Arc.{arc_value}
-use Rattle.duct_system.specs.Job.{unpolled_job}
 use Rattle.duct_run.specs.Actions as action
-use Rattle.duct_start.specs.Step.{AskFeed}
-use Rattle.duct_run.specs.ResourcesView.{resources_view, stack_view}
 use Rattle.duct_run.proofs.Going.{feed_succeeds, feed_fails, memory_fails}
 use Rattle.duct_run.proofs.Pushed.{pushed, pushed_number, goes_as, all_pushed, as_bytes, still, unpolled_same}
 use Rattle.duct_run.proofs.Requesting.{goes_on, stops}

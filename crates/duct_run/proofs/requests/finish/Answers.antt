@@ -1,9 +1,5 @@
-use Rattle.std.proofs.lemmas.Result.{err_from_is_err_and}
+use Rattle.duct_run.proofs.Common.{err_from_is_err_and, All-cons, All-nil, unpolled_job, pipe_view, both, resources_view, with_side}
 use Rattle.std.proofs.Common.{All, ap, sym, ◌∙◌, ◌≡◌, ◌++◌, ◌∷◌, [], Some, None, map, option_to_list}
-use Rattle.std.proofs.lemmas.List.Elements.{All-cons, All-nil}
-use Rattle.duct_system.specs.Job.{unpolled_job}
-use Rattle.duct_run.specs.ResourcesView.{pipe_view, both, resources_view}
-use Rattle.duct_status.specs.PerSide.{with_side}
 use Rattle.duct_run.proofs.Captured.{finish_succeeds, finish_fails}
 use Rattle.duct_run.proofs.CapturePipes.{each_with}
 use Rattle.duct_run.proofs.PerSide.{last_worker, pipe_at, pipes_with}

@@ -1,6 +1,5 @@
 use Rattle.std.proofs.Common.{rules}
-use Rattle.std.proofs.lemmas.Result.{err_from_is_err_and}
-use Rattle.duct_run.specs.ResourcesView.{resources_view}
+use Rattle.duct_run.proofs.Common.{err_from_is_err_and, resources_view}
 use Rattle.duct_run.specs.Actions as action
 use Rattle.duct_run.proofs.Going.{open_read_succeeds, open_read_fails}
 use Rattle.duct_run.proofs.Pushed.{pushed, goes_over}

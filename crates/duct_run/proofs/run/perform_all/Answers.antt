@@ -1,11 +1,7 @@
 -- One more action of the list. If there is no memory for it, or it fails, the run fails.
 use Rattle.std.proofs.Common.{◌≡◌, ◌+◌, ◌∷◌, [], arith, drop, map, refl}
-use Rattle.std.proofs.lemmas.Result.{err_from_is_err_and}
-use Rattle.duct_system.specs.SpecView.{pair_text}
-use Rattle.duct_run.specs.ActionList.{resolved, resolved_all}
+use Rattle.duct_run.proofs.Common.{err_from_is_err_and, pair_text, resolved, resolved_all, action_view, actions_view, all_scopes, resources_view}
 use Rattle.duct_run.proofs.Leaving.{leaves_on, leaves_same}
-use Rattle.duct_run.specs.ActionView.{action_view, actions_view, all_scopes}
-use Rattle.duct_run.specs.ResourcesView.{resources_view}
 use Rattle.duct_run.proofs.Pushed.{length_stack}
 use Rattle.duct_run.proofs.Turns.{can_here, goes_on_saying, memory_refused, new_same, pops_resolved, refused_now, rest_is, rest_none, room_here, invariant_done, stood_same, within_at, workers_on, workers_same}
 use Rattle.duct_run.proofs.run.perform_all.Goals as goal

@@ -1,12 +1,6 @@
 -- A run that had all actions left at the start now has the remaining ones left.
 use Rattle.std.proofs.Common.{◌≡◌, [], drop, map}
-use Rattle.duct_system.specs.SpecView.{pair_text}
-use Rattle.duct_run.specs.Actions.{State}
-use Rattle.duct_start.specs.Left.{Leaves, pool_view}
-use Rattle.duct_run.specs.ActionList.{resolved_all}
-use Rattle.duct_run.specs.RunInvariant.{RunContext, ReadyForActions}
-use Rattle.duct_run.specs.ActionView.{actions_view, all_scopes}
-use Rattle.duct_run.specs.ResourcesView.{AreNew, HasSameWorkers, resources_view}
+use Rattle.duct_run.proofs.Common.{pair_text, State, Leaves, pool_view, resolved_all, RunContext, ReadyForActions, actions_view, all_scopes, AreNew, HasSameWorkers, resources_view}
 use Rattle.duct_run.proofs.run.perform_all.Given as goal
 
 abbrev pub invariant-loop-action : goal.invariant-loop-action

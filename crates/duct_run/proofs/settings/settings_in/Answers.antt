@@ -1,7 +1,6 @@
 -- One step to the scope outside.
 use Rattle.std.proofs.Common.{subst}
-use Rattle.duct_run.specs.ActionList.{scope_in}
-use Rattle.duct_run.specs.ActionView.{scopes_view}
+use Rattle.duct_run.proofs.Common.{scope_in, scopes_view}
 use Rattle.duct_run.specs.Settings.{Sets}
 use Rattle.duct_run.proofs.Outwards.{IsRead, is_next, outer_below, outer_within, root_is}
 use Rattle.duct_run.proofs.settings.settings_in.Goals as goal

@@ -1,7 +1,6 @@
 -- With the settings so far, the scope reached so far makes the scope that was passed in.
 use Rattle.std.proofs.Common.{◌≤◌, length}
-use Rattle.duct_run.specs.ActionList.{scope_in}
-use Rattle.duct_run.specs.ActionView.{scopes_view}
+use Rattle.duct_run.proofs.Common.{scope_in, scopes_view}
 use Rattle.duct_run.specs.Settings.{Sets}
 use Rattle.duct_run.proofs.settings.settings_in.Given as goal
 

@@ -1,6 +1,6 @@
 -- Both ends of stdout's capture pipe are given away, the write end first.
 use Rattle.std.proofs.Common.{ap, sym, ◌∙◌}
-use Rattle.duct_run.specs.ResourcesView.{pipe_view}
+use Rattle.duct_run.proofs.Common.{pipe_view}
 use Rattle.duct_run.proofs.start.read_output.Goals as goal
 
 pub returns-clause-read : goal.returns-clause-read

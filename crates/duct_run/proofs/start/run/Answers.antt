@@ -1,10 +1,7 @@
 -- From the environment to the capture workers, or to the reader.
 use Rattle.std.proofs.Common.{◌≡◌, ap, ◌∙◌, rules, sym, None, is_some, Option}
-use Rattle.std.proofs.lemmas.Result.{err_from_is_err_and}
+use Rattle.duct_run.proofs.Common.{err_from_is_err_and, PerSide, with_capture_finished, reader_tail, tail_for}
 use Rattle.duct_system.specs.declared.system.Side.TheVariants as side
-use Rattle.duct_status.specs.declared.per_side.PerSide.{PerSide}
-use Rattle.duct_run.specs.Actions.{with_capture_finished}
-use Rattle.duct_run.specs.RunContract.{reader_tail, tail_for}
 use Rattle.duct_run.proofs.OutputRead.{two_spent}
 use Rattle.duct_run.proofs.Reading.{reader_last, run_reads}
 use Rattle.duct_run.proofs.RunContract.{finished_more, read_more, refused_before, run_fails, run_pipes, run_room, run_succeeds, tail_more}

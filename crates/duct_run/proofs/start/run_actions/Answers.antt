@@ -1,10 +1,6 @@
 -- From the environment to the last action.
 use Rattle.std.proofs.Common.{refl, map}
-use Rattle.std.proofs.lemmas.Result.{err_from_is_err_and, IfErr-weaker, on_ok_weaker}
-use Rattle.duct_system.specs.SpecView.{pair_text}
-use Rattle.duct_run.specs.Actions.{with_plan}
-use Rattle.duct_start.specs.Left.{pool_view}
-use Rattle.duct_run.specs.RunContract.{context_of}
+use Rattle.duct_run.proofs.Common.{err_from_is_err_and, IfErr-weaker, on_ok_weaker, pair_text, with_plan, pool_view, context_of}
 use Rattle.duct_run.proofs.Leaving.{leaves_same}
 use Rattle.duct_run.proofs.RunContract.{environment_refused, stood_begun}
 use Rattle.duct_run.proofs.start.run_actions.Goals as goal

@@ -1,8 +1,5 @@
-use Rattle.std.proofs.lemmas.Result.{err_from_is_err_and}
+use Rattle.duct_run.proofs.Common.{err_from_is_err_and, stream_of, missing_at, CloseSucceeds}
 use Rattle.std.proofs.Common.{ap, length, subst, sym, ◌∙◌}
-use Rattle.duct_system.specs.Streams.{stream_of}
-use Rattle.duct_start.specs.Chain.{missing_at}
-use Rattle.duct_run.specs.Commands.{CloseSucceeds}
 use Rattle.duct_run.proofs.Redirecting.{end_there, redirects_place, unredirected}
 use Rattle.duct_run.proofs.streams.redirect.Goals as goal
 

@@ -1,5 +1,5 @@
 -- A variable that was inserted or removed.
-use Rattle.duct_system.proofs.Entries.{are_ordered}
+use Rattle.duct_run.proofs.Common.{are_ordered}
 use Rattle.duct_run.proofs.Changed.{put_in, taken_away}
 use Rattle.duct_run.proofs.variables.changed.Goals as goal
 

@@ -1,6 +1,6 @@
 -- The furthest remaining change is applied, and at the end all are.
 use Rattle.std.proofs.Common.{◌∙◌, ap, map, subst, sym}
-use Rattle.duct_system.specs.SpecView.{AreOrdered, pair_text, var_view, variable_in}
+use Rattle.duct_run.proofs.Common.{AreOrdered, pair_text, var_view, variable_in}
 use Rattle.duct_run.proofs.Gathering.{begun_whole, begun_said, one_made}
 use Rattle.duct_run.proofs.variables.changed_variables.Goals as goal
 use Rattle.duct_run.proofs.variables.changed_variables.Goals.{in-Some+in_ok-vars-in-Some, in-None+in_ok-vars-in-None}

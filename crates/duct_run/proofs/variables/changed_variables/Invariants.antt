@@ -1,8 +1,6 @@
 -- The remaining changes, applied to the variables so far, are all changes of the scopes.
 use Rattle.std.proofs.Common.{◌≡◌, ◌++◌, ◌∷◌, [], ℕ, List, map, vec_len}
-use Rattle.duct_system.specs.SpecView.{AreOrdered, pair_text, var_view}
-use Rattle.duct_start.specs.Surroundings.{Replaces, variable}
-use Rattle.duct_run.specs.Settings.{change_of, changes_of}
+use Rattle.duct_run.proofs.Common.{AreOrdered, pair_text, var_view, Replaces, variable, change_of, changes_of}
 use Rattle.duct_run.proofs.variables.changed_variables.Given as goal
 
 abbrev pub invariant-loop-change : goal.invariant-loop-change

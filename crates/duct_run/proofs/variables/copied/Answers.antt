@@ -1,5 +1,5 @@
 -- A clone has the same variables, in order.
-use Rattle.duct_system.proofs.Entries.{are_ordered}
+use Rattle.duct_run.proofs.Common.{are_ordered}
 use Rattle.duct_run.proofs.Changed.{copied_vars}
 use Rattle.duct_run.proofs.variables.copied.Goals as goal
 

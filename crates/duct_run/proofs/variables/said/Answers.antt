@@ -1,8 +1,6 @@
 -- One more pair is inserted, and at the end all are.
 use Rattle.std.proofs.Common.{ap, ◌∙◌, ◌++◌, [], ◌∷◌, map, take, subst, sym}
-use Rattle.std.proofs.lemmas.List.{take_more}
-use Rattle.duct_system.proofs.Entries.{are_ordered}
-use Rattle.duct_system.specs.SpecView.{pair_text}
+use Rattle.duct_run.proofs.Common.{take_more, are_ordered, pair_text}
 use Rattle.duct_run.proofs.Changed.{FindsSaid, finds_more}
 use Rattle.duct_run.proofs.variables.said.Goals as goal
 

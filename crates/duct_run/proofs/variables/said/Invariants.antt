@@ -1,8 +1,7 @@
 -- The map has the variables of the pairs read so far.
 use Rattle.std.proofs.Common.{map, take}
-use Rattle.std.specs.BTreeMap.{IsOrdered}
+use Rattle.duct_run.proofs.Common.{IsOrdered, pair_text}
 use Rattle.duct_system.specs.Name.{name_cmp}
-use Rattle.duct_system.specs.SpecView.{pair_text}
 use Rattle.duct_run.proofs.Changed.{FindsSaid}
 use Rattle.duct_run.proofs.variables.said.Given as goal
 

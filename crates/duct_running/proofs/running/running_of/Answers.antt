@@ -1,8 +1,6 @@
 use Rattle.std.proofs.Common.{◌≤◌, ◌++◌, ap, ◌∙◌, arith, length, map, None, Some, option_to_list, Option}
-use Rattle.duct_system.specs.Child.{ChildView}
+use Rattle.duct_running.proofs.Common.{ChildView, views_of, AreUnasked}
 use Rattle.duct_system.specs.declared.system.Side.TheVariants as side
-use Rattle.duct_run.proofs.Seeing.{views_of}
-use Rattle.duct_running.specs.Stored.{AreUnasked}
 use Rattle.duct_running.proofs.Told.{none_told}
 use Rattle.duct_running.proofs.Unasked.{unasked_words}
 use Rattle.duct_status.specs.CoreView.{latest_in, shape_in}

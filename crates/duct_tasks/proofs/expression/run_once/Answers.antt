@@ -1,5 +1,4 @@
-use Rattle.duct_run.proofs.Seeing.{views_of}
-use Rattle.duct.specs.Launched.{IsRun}
+use Rattle.duct_tasks.proofs.Common.{views_of, IsRun}
 use Rattle.duct_tasks.proofs.EachAttempt.{by_result}
 use Rattle.duct_tasks.proofs.expression.run_once.Goals as goal
 

@@ -1,6 +1,4 @@
-use Rattle.std.specs.Fn.{FnReturnsAt}
-use Rattle.duct_run.proofs.Seeing.{views_of}
-use Rattle.duct.specs.Launched.{IsStart, draining}
+use Rattle.duct_tasks.proofs.Common.{FnReturnsAt, views_of, IsStart, draining}
 use Rattle.duct_tasks.proofs.EachAttempt.{SoFar}
 use Rattle.duct_tasks.proofs.expression.start_attempts.Given as goal
 

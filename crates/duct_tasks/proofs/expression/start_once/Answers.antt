@@ -1,5 +1,4 @@
-use Rattle.duct_run.proofs.Seeing.{views_of}
-use Rattle.duct.specs.Launched.{IsStart, draining}
+use Rattle.duct_tasks.proofs.Common.{views_of, IsStart, draining}
 use Rattle.duct_tasks.proofs.EachAttempt.{by_result}
 use Rattle.duct_tasks.proofs.expression.start_once.Goals as goal
 

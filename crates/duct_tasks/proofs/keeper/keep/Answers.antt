@@ -1,8 +1,6 @@
 use Rattle.std.proofs.Common.{arith, refl, subst, sym, Bool}
-use Rattle.duct_run.proofs.Seeing.{views_of}
-use Rattle.duct_tasks.specs.Turns.{IsWhy}
+use Rattle.duct_tasks.proofs.Common.{views_of, IsWhy, Stopped}
 use Rattle.duct_tasks.specs.declared.keeper.Why.{Why}
-use Rattle.duct_tasks.specs.declared.keeper.Why.TheVariants.{Stopped}
 use Rattle.duct_tasks.proofs.Keeping.{ends, goes_on, nothing, over}
 use Rattle.duct_tasks.proofs.keeper.keep.Goals as goal
 

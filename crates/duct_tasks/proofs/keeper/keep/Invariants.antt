@@ -1,6 +1,5 @@
 use Rattle.std.proofs.Common.{◌≡◌}
-use Rattle.duct_run.proofs.Seeing.{views_of}
-use Rattle.duct_tasks.specs.declared.keeper.Why.TheVariants.{GaveUp}
+use Rattle.duct_tasks.proofs.Common.{views_of, GaveUp}
 use Rattle.duct_tasks.proofs.Keeping.{SoFar}
 use Rattle.duct_tasks.proofs.keeper.keep.Given as goal
 

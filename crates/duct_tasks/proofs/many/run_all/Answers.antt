@@ -1,9 +1,6 @@
 use Rattle.std.proofs.Common.{◌≡◌, ◌≤◌, ◌⊎◌, false, true, List, [], arith, ap, ◌∙◌, length, subst}
-use Rattle.duct.specs.declared.expression.Expression.{Expression}
-use Rattle.duct_run.proofs.Seeing.{views_of}
-use Rattle.duct_tasks.specs.Turns.{Goes, GoesOn}
+use Rattle.duct_tasks.proofs.Common.{Expression, views_of, Goes, GoesOn, Tasks}
 use Rattle.duct_tasks.specs.declared.many.AtFailure.TheVariants.{Stop}
-use Rattle.duct_tasks.specs.declared.many.Tasks.{Tasks}
 use Rattle.duct_tasks.proofs.Ends.{few_started, ran_all}
 use Rattle.duct_tasks.proofs.many.run_all.Goals as goal
 

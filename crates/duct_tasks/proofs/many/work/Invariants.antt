@@ -1,6 +1,5 @@
 use Rattle.std.proofs.Common.{◌≡◌}
-use Rattle.duct_run.proofs.Seeing.{views_of}
-use Rattle.duct_tasks.specs.Turns.{Goes}
+use Rattle.duct_tasks.proofs.Common.{views_of, Goes}
 use Rattle.duct_tasks.proofs.many.work.Given as goal
 
 abbrev pub invariant-loop : goal.invariant-loop

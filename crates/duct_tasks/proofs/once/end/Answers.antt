@@ -1,5 +1,5 @@
 use Rattle.std.proofs.Common.{◌∙◌, inr, refl, true}
-use Rattle.duct_run.proofs.Seeing.{views_of}
+use Rattle.duct_tasks.proofs.Common.{views_of}
 use Rattle.duct_tasks.proofs.Signalled.{orders_left}
 use Rattle.duct_tasks.proofs.once.end.Goals as goal
 

@@ -1,8 +1,6 @@
 use Rattle.std.proofs.Common.{◌≡◌, ◌∙◌, ap, false, true, Bool, [], if◌then◌else◌, length, Some}
-use Rattle.std.proofs.lemmas.List.Elements.{All-map}
-use Rattle.duct_run.proofs.Seeing.{views_of}
+use Rattle.duct_tasks.proofs.Common.{All-map, views_of, numbers_of}
 use Rattle.duct.proofs.Finished.{ran_tree}
-use Rattle.duct_running.specs.NumbersView.{numbers_of}
 use Rattle.duct_tasks.proofs.Keeping.{ran_on}
 use Rattle.duct_tasks.proofs.Staying.{alike}
 use Rattle.duct_tasks.proofs.Turning.{launched, refused}

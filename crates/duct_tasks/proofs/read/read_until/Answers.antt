@@ -1,11 +1,6 @@
 use Rattle.std.proofs.Common.{◌++◌, inl, inr, refl, subst, ℕ, ◌≡◌, map, option_to_list}
-use Rattle.std.proofs.lemmas.Result.{err_from_is_err_and}
+use Rattle.duct_tasks.proofs.Common.{err_from_is_err_and, PoolGets, views_of, added_between, draining, tree_view, ReadsFirst, last_read}
 use Rattle.std.specs.Duration.{as_nanos}
-use Rattle.duct_run.specs.Requested.{PoolGets}
-use Rattle.duct_run.proofs.Seeing.{views_of}
-use Rattle.duct.specs.Launched.{added_between, draining}
-use Rattle.duct.specs.TreeView.{tree_view}
-use Rattle.duct_tasks.specs.Until.{ReadsFirst, last_read}
 use Rattle.duct_tasks.proofs.Ending.{first_drain, launch_stopped}
 use Rattle.duct_tasks.proofs.read.read_until.Goals as goal
 

@@ -1,5 +1,4 @@
-use Rattle.std.specs.Fn.{FnReturnsAt}
-use Rattle.duct_tasks.specs.Turns.{FnReturnsAtPairMut}
+use Rattle.duct_tasks.proofs.Common.{FnReturnsAt, FnReturnsAtPairMut}
 use Rattle.duct_tasks.proofs.EachAttempt.{SoFar}
 use Rattle.duct_tasks.proofs.repeated.attempts.Given as goal
 

@@ -1,10 +1,6 @@
 use Rattle.std.proofs.Common.{◌≡◌, inl, inr, refl, []}
-use Rattle.std.proofs.lemmas.List.Elements.{All-map}
-use Rattle.std.proofs.lemmas.Result.{err_from_is_err_and}
-use Rattle.duct_run.proofs.Seeing.{views_of}
+use Rattle.duct_tasks.proofs.Common.{All-map, err_from_is_err_and, views_of, Fails, added_between, draining, tree_view}
 use Rattle.duct_handle.specs.Finished.{StoresError}
-use Rattle.duct.specs.Launched.{Fails, added_between, draining}
-use Rattle.duct.specs.TreeView.{tree_view}
 use Rattle.duct.proofs.Finished.{ran_tree, wait_failed}
 use Rattle.duct_tasks.proofs.Ending.{is_late}
 use Rattle.duct_tasks.proofs.Staying.{alike, stays_on}

@@ -1,6 +1,4 @@
-use Rattle.std.proofs.lemmas.Result.{err_from_is_err_and}
-use Rattle.duct_run.proofs.Seeing.{views_of}
-use Rattle.duct_run.specs.Requested.{PoolGets}
+use Rattle.duct_tasks.proofs.Common.{err_from_is_err_and, views_of, PoolGets}
 use Rattle.duct_tasks.proofs.Ending.{launch_stopped}
 use Rattle.duct_tasks.proofs.run.run_until.Goals as goal
 

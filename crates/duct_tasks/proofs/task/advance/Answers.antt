@@ -1,9 +1,5 @@
 use Rattle.std.proofs.Common.{◌≡◌, ap, refl, subst, Bool, length, if◌then◌else◌, Some}
-use Rattle.duct_start.specs.Running.{RunningView}
-use Rattle.duct_run.proofs.Seeing.{views_of}
-use Rattle.duct_running.specs.NumbersView.{numbers_of}
-use Rattle.duct_tasks.specs.Turns.{IsLast}
-use Rattle.duct_tasks.specs.Until.{RunsAlike}
+use Rattle.duct_tasks.proofs.Common.{RunningView, views_of, numbers_of, IsLast, RunsAlike}
 use Rattle.duct_tasks.proofs.Signalled.{had_orders, orders_left}
 use Rattle.duct_tasks.proofs.Staying.{alike}
 use Rattle.duct_tasks.proofs.task.advance.Goals as goal

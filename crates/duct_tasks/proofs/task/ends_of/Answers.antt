@@ -1,10 +1,6 @@
 use Rattle.std.proofs.Common.{◌≡◌, List, [], ◌∷◌, ap, arith, length, length-append, map, sum_by}
 use Rattle.std.specs.Vec.Iter.{into_iter_items}
-use Rattle.std.proofs.lemmas.List.Sums.{sum_by-cons}
-use Rattle.duct_tasks.specs.Turns.{running_of}
-use Rattle.duct_tasks.specs.Until.{End}
-use Rattle.duct_tasks.specs.declared.task.Task.{Task}
-use Rattle.duct_tasks.specs.declared.task.Task.TheVariants.{Ended}
+use Rattle.duct_tasks.proofs.Common.{sum_by-cons, running_of, End, Task, Ended}
 use Rattle.duct_tasks.proofs.Ends.{all_made, one_more}
 use Rattle.duct_tasks.proofs.task.ends_of.Goals as goal
 

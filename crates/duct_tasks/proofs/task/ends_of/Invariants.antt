@@ -1,8 +1,7 @@
 -- The ends so far, those that are left, and the room for them.
 use Rattle.std.proofs.Common.{◌≡◌, ◌+◌, ◌≤◌, ◌++◌, length, map, vec_capacity, sum_by}
 use Rattle.std.specs.Vec.Iter.{into_iter_items, into_iter_len}
-use Rattle.duct_tasks.specs.Turns.{running_of}
-use Rattle.duct_tasks.specs.declared.task.Task.TheVariants.{Ended}
+use Rattle.duct_tasks.proofs.Common.{running_of, Ended}
 use Rattle.duct_tasks.proofs.task.ends_of.Given as goal
 
 abbrev pub invariant-loop : goal.invariant-loop

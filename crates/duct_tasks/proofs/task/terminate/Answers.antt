@@ -1,7 +1,5 @@
 use Rattle.std.proofs.Common.{false, true, refl}
-use Rattle.duct_run.proofs.Seeing.{views_of}
-use Rattle.duct_tasks.specs.Turns.{Advances}
-use Rattle.duct_tasks.specs.declared.task.Task.TheVariants.{Running}
+use Rattle.duct_tasks.proofs.Common.{views_of, Advances, Running}
 use Rattle.duct_tasks.proofs.task.terminate.Goals as goal
 
 pub returns-in-Running-clause-goes : goal.returns-in-Running-clause-goes

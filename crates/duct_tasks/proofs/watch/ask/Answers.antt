@@ -1,6 +1,5 @@
 use Rattle.std.specs.Prelude.{map, pos}
-use Rattle.duct_system.specs.declared.system.Order.TheVariants.{Signal}
-use Rattle.duct_run.proofs.Seeing.{views_of}
+use Rattle.duct_tasks.proofs.Common.{Signal, views_of}
 use Rattle.duct_tasks.proofs.Signalled.{all_sent, seen_after}
 use Rattle.duct_tasks.proofs.watch.ask.Goals as goal
 

@@ -1,10 +1,8 @@
 use Rattle.std.specs.declared.sync.Arc.{Arc}
 use Rattle.std.proofs.Common.{ap, inl, inr, subst, ◌∙◌, Ok, Err, Option, Global}
-use Rattle.duct_system.specs.declared.error.Error.{Error}
+use Rattle.duct_tasks.proofs.Common.{Error, views_of, Polled}
 use Rattle.duct_system.specs.declared.system.Output.{Output}
-use Rattle.duct_run.proofs.Seeing.{views_of}
 use Rattle.duct_running.specs.Answered.{ReturnsConclusion}
-use Rattle.duct_running.specs.Polled.{Polled}
 use Rattle.duct_tasks.proofs.watch.ended.Goals as goal
 
 pub returns-in-Ok-None-clause-runs : goal.returns-in-Ok-None-clause-runs

@@ -1,5 +1,4 @@
-use Rattle.duct_system.specs.declared.system.Order.TheVariants.{Kill}
-use Rattle.duct_run.proofs.Seeing.{views_of}
+use Rattle.duct_tasks.proofs.Common.{Kill, views_of}
 use Rattle.duct_tasks.proofs.Signalled.{seen_after}
 use Rattle.duct_tasks.proofs.watch.kill.Goals as goal
 

@@ -1,4 +1,4 @@
-use Rattle.duct_run.proofs.Seeing.{views_of}
+use Rattle.duct_tasks.proofs.Common.{views_of}
 use Rattle.duct_running.proofs.Kept.{stays}
 use Rattle.duct_tasks.proofs.Staying.{concluded}
 use Rattle.duct_tasks.proofs.watch.polled.Goals as goal

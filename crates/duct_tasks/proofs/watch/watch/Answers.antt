@@ -1,6 +1,5 @@
 use Rattle.std.proofs.Common.{◌≡◌, false, true, inl, inr, refl, subst}
-use Rattle.duct_run.proofs.Seeing.{views_of}
-use Rattle.duct_running.specs.Polled.{PolledOnce}
+use Rattle.duct_tasks.proofs.Common.{views_of, PolledOnce}
 use Rattle.duct_tasks.proofs.Signalled.{orders_left}
 use Rattle.duct_tasks.proofs.Staying.{stays_on, stays_same}
 use Rattle.duct_tasks.proofs.watch.watch.Goals as goal

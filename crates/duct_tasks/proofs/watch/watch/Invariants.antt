@@ -1,9 +1,7 @@
 -- What is polled stays as it was but for its results; after the first turn the stop function has
 -- said no.
 use Rattle.std.proofs.Common.{◌≡◌, ◌⊎◌, false}
-use Rattle.duct_run.proofs.Seeing.{views_of}
-use Rattle.duct_running.specs.Polled.{StaysSame}
-use Rattle.duct_tasks.specs.Until.{AreSignalled}
+use Rattle.duct_tasks.proofs.Common.{views_of, StaysSame, AreSignalled}
 use Rattle.duct_tasks.proofs.watch.watch.Given as goal
 
 abbrev pub invariant-loop : goal.invariant-loop

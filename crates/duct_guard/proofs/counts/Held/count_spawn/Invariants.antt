@@ -1,7 +1,6 @@
 -- The streams that are left complete what is held.
 use Rattle.std.proofs.Common.{◌≡◌, drop}
-use Rattle.duct_system.specs.Streams.{ends_of}
-use Rattle.duct_guard.specs.Held.{without_ends}
+use Rattle.duct_guard.proofs.Common.{ends_of, without_ends}
 use Rattle.duct_guard.proofs.counts.Held.count_spawn.Given as goal
 
 abbrev pub invariant-loop-stream : goal.invariant-loop-stream

@@ -1,7 +1,5 @@
 use Rattle.std.proofs.Common.{ap, subst}
-use Rattle.duct_guard.specs.Rules.{AreDenied}
-use Rattle.duct_guard.specs.GuardView.{GuardView}
-use Rattle.duct_guard.specs.Held.{AlwaysFits}
+use Rattle.duct_guard.proofs.Common.{AreDenied, GuardView, AlwaysFits}
 use Rattle.duct_guard.proofs.Guarding.{own_denied}
 use Rattle.duct_guard.proofs.Holding.{own_fits}
 use Rattle.duct_guard.proofs.guard.Guarded.asked.Goals as goal

@@ -1,5 +1,5 @@
 use Rattle.std.proofs.Common.{refl, ◌∙◌, ap}
-use Rattle.duct_guard.specs.GuardView.{end_entry}
+use Rattle.duct_guard.proofs.Common.{end_entry}
 use Rattle.duct_guard.proofs.Below.{none_asked, one_asked}
 use Rattle.duct_guard.proofs.Counting.{noted_end, notes, ready_for}
 use Rattle.duct_guard.proofs.Guarding.{opens_end}

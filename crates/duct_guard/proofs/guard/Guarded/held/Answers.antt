@@ -1,6 +1,5 @@
 use Rattle.std.proofs.Common.{ap, subst, sym, ◌≡◌, ◌∙◌}
-use Rattle.duct_guard.specs.GuardView.{GuardView}
-use Rattle.duct_guard.specs.Held.{Fits, counts_of, held_after}
+use Rattle.duct_guard.proofs.Common.{GuardView, Fits, counts_of, held_after}
 use Rattle.duct_guard.proofs.Holding.{now_fits}
 use Rattle.duct_guard.proofs.guard.Guarded.held.Goals as goal
 

@@ -1,6 +1,5 @@
 use Rattle.std.proofs.Common.{ap, subst}
-use Rattle.duct_guard.specs.Rules.{AreAllowed}
-use Rattle.duct_guard.specs.GuardView.{GuardView}
+use Rattle.duct_guard.proofs.Common.{AreAllowed, GuardView}
 use Rattle.duct_guard.proofs.Guarding.{below_allowed}
 use Rattle.duct_guard.proofs.guard.Guarded.inner.Goals as goal
 

@@ -1,7 +1,5 @@
 use Rattle.std.proofs.Common.{arith, ap, rules}
-use Rattle.std.proofs.lemmas.Grind.{common_steps}
-use Rattle.duct_system.specs.Journal.{JournalView}
-use Rattle.duct_guard.specs.declared.counts.Held.{Held}
+use Rattle.duct_guard.proofs.Common.{common_steps, JournalView, Held}
 use Rattle.duct_guard.proofs.Holding.{begun_first}
 use Rattle.duct_guard.proofs.Crews.{no_crew}
 use Rattle.duct_guard.proofs.Guarding.{nothing_noted}

@@ -1,5 +1,5 @@
 use Rattle.std.proofs.Common.{ap, arith, refl}
-use Rattle.duct_system.specs.Journal.{JournalView}
+use Rattle.duct_guard.proofs.Common.{JournalView}
 use Rattle.duct_guard.proofs.Holding.{begun_again, now_fits}
 use Rattle.duct_guard.proofs.Crews.{crew_cleared}
 use Rattle.duct_guard.proofs.Guarding.{nothing_noted}

@@ -1,6 +1,5 @@
 use Rattle.std.proofs.Common.{refl, ap, arith, [], ◌∷◌, ◌∙◌, ◌-◌}
-use Rattle.duct_system.specs.Journal.{JournalView}
-use Rattle.duct_guard.specs.Held.{with_ends}
+use Rattle.duct_guard.proofs.Common.{JournalView, with_ends}
 use Rattle.duct_guard.proofs.Below.{none_asked, one_asked}
 use Rattle.duct_guard.proofs.Counting.{noted_one, notes}
 use Rattle.duct_guard.proofs.guard.GuardedSystem.pipe.Goals as goal

@@ -1,8 +1,6 @@
 use Rattle.std.proofs.Common.{refl, sym, ◌∙◌, inr, rules, ap, arith, map, vec_len, ◌≤◌}
-use Rattle.std.proofs.lemmas.Grind.{common_steps}
-use Rattle.duct_system.specs.Streams.{stream_of, ends_of}
+use Rattle.duct_guard.proofs.Common.{common_steps, stream_of, ends_of, GuardView}
 use Rattle.duct_guard.specs.declared.crew.GuardedChild.{GuardedChild}
-use Rattle.duct_guard.specs.GuardView.{GuardView}
 use Rattle.duct_guard.proofs.Below.{none_asked, one_asked}
 use Rattle.duct_guard.proofs.Closing.{nothing_closed, on_err, streams_count}
 use Rattle.duct_guard.proofs.Counting.{noted_child, notes}

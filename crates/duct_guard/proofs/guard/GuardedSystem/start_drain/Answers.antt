@@ -1,6 +1,5 @@
 use Rattle.std.proofs.Common.{refl, arith, Result}
-use Rattle.duct_system.specs.EntryView.{Drain}
-use Rattle.duct_system.specs.declared.system.Fault.{Fault}
+use Rattle.duct_guard.proofs.Common.{Drain, Fault}
 use Rattle.duct_guard.proofs.Below.{one_asked}
 use Rattle.duct_guard.proofs.Counting.{noted_one, notes}
 use Rattle.duct_guard.proofs.Guarding.{worker_answered}

@@ -1,5 +1,5 @@
 use Rattle.std.proofs.Common.{refl, rules, arith}
-use Rattle.std.proofs.lemmas.Grind.{common_steps}
+use Rattle.duct_guard.proofs.Common.{common_steps}
 use Rattle.duct_guard.proofs.Below.{one_asked}
 use Rattle.duct_guard.proofs.Counting.{noted_one, notes}
 use Rattle.duct_guard.proofs.guard.GuardedSystem.start_feed.Goals as goal

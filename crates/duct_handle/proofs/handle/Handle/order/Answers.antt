@@ -1,7 +1,5 @@
 use Rattle.std.proofs.Common.{subst}
-use Rattle.duct_run.proofs.Seeing.{views_of}
-use Rattle.duct_handle.specs.HandleView.{HandleView}
-use Rattle.duct_handle.specs.Obeyed.{IsObeyed}
+use Rattle.duct_handle.proofs.Common.{views_of, HandleView, IsObeyed}
 use Rattle.duct_handle.proofs.handle.Handle.order.Goals as goal
 
 pub returns : goal.returns

@@ -1,14 +1,7 @@
 -- What a token that knows nothing yet finds under the lock.
 use Rattle.std.proofs.Common.{Ok, Err, None, ap, subst, sym, ◌∙◌, option_map}
-use Rattle.std.specs.Arc.{arc_value}
+use Rattle.duct_handle.proofs.Common.{arc_value, shape_view, views_of, IsAnswer, numbers_view, OneRuns, HandleView, PublishedView, SeenView, Waited}
 use Rattle.once_cell.specs.Once.{Agrees}
-use Rattle.duct_status.specs.ShapeView.{shape_view}
-use Rattle.duct_run.proofs.Seeing.{views_of}
-use Rattle.duct_running.specs.Answered.{IsAnswer}
-use Rattle.duct_running.specs.NumbersView.{numbers_view}
-use Rattle.duct_running.specs.Allowed.{OneRuns}
-use Rattle.duct_handle.specs.HandleView.{HandleView, PublishedView, SeenView}
-use Rattle.duct_handle.specs.Waited.{Waited}
 use Rattle.duct_handle.proofs.Sharing.{none_within, shared, still_refused, still_unknown}
 use Rattle.duct_handle.proofs.handle.Handle.poll_locked.Goals as goal
 

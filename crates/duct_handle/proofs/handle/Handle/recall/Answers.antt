@@ -1,10 +1,6 @@
 -- A token that knows what is published.
 use Rattle.std.proofs.Common.{ap, subst, ◌∙◌, option_map}
-use Rattle.std.specs.Arc.{arc_value}
-use Rattle.duct_run.proofs.Seeing.{views_of}
-use Rattle.duct_running.specs.NumbersView.{numbers_view}
-use Rattle.duct_handle.specs.HandleView.{SeenView}
-use Rattle.duct_handle.specs.Waited.{Waited}
+use Rattle.duct_handle.proofs.Common.{arc_value, views_of, numbers_view, SeenView, Waited}
 use Rattle.duct_handle.proofs.Sharing.{shared}
 use Rattle.duct_handle.proofs.handle.Handle.recall.Goals as goal
 

@@ -1,8 +1,5 @@
 use Rattle.std.proofs.Common.{◌≡◌, ap, refl, ◌∙◌, inl, rules}
-use Rattle.std.specs.Arc.{arc_value}
-use Rattle.duct_status.specs.ShapeView.{shape_view}
-use Rattle.duct_running.specs.NumbersView.{numbers_view}
-use Rattle.duct_handle.specs.HandleView.{answer_view, HandleView}
+use Rattle.duct_handle.proofs.Common.{arc_value, shape_view, numbers_view, answer_view, HandleView}
 use Rattle.duct_handle.proofs.Sharing.{concluded}
 use Rattle.duct_handle.proofs.handle.Handle.share.Goals as goal
 

@@ -1,8 +1,5 @@
 use Rattle.std.proofs.Common.{subst}
-use Rattle.duct_system.specs.declared.system.Order.TheVariants.{Kill}
-use Rattle.duct_run.proofs.Seeing.{views_of}
-use Rattle.duct_handle.specs.HandleView.{HandleView}
-use Rattle.duct_handle.specs.Obeyed.{IsObeyed}
+use Rattle.duct_handle.proofs.Common.{Kill, views_of, HandleView, IsObeyed}
 use Rattle.duct_handle.proofs.reader.ReaderHandle.kill.Goals as goal
 
 pub returns : goal.returns

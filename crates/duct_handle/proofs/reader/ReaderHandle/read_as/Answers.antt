@@ -1,9 +1,5 @@
 use Rattle.std.specs.Prelude.{ℕ, ◌≡◌, Ok, Err, Result}
-use Rattle.duct_system.specs.declared.error.Error.{Error}
-use Rattle.duct_system.specs.SystemViews.{SystemViews}
-use Rattle.duct_run.proofs.Seeing.{views_of}
-use Rattle.duct_running.specs.Stored.{Bytes}
-use Rattle.duct_handle.specs.HandleView.{HandleView, SeenView}
+use Rattle.duct_handle.proofs.Common.{Error, SystemViews, views_of, Bytes, HandleView, SeenView}
 use Rattle.duct_handle.specs.Reads.{ClosesAs, KnowsOutput}
 use Rattle.duct_handle.proofs.reader.ReaderHandle.read_as.Goals as goal
 

@@ -1,7 +1,5 @@
 use Rattle.std.proofs.Common.{◌≡◌, rules, subst, to_z, of_z, w32}
-use Rattle.duct_system.specs.declared.system.Order.TheVariants.{Signal}
-use Rattle.duct_run.proofs.Seeing.{views_of}
-use Rattle.duct_handle.specs.Obeyed.{IsObeyed}
+use Rattle.duct_handle.proofs.Common.{Signal, views_of, IsObeyed}
 use Rattle.duct_handle.proofs.unix.HandleHandleExt.send_signal.Goals as goal
 
 pub returns : goal.returns

@@ -1,9 +1,7 @@
 -- A hook of a scope outside comes before the hooks so far.
 use Rattle.std.proofs.Common.{◌++◌, ◌∷◌, [], ap, sym, ◌∙◌, subst, append_assoc}
-use Rattle.duct_start.specs.Step.{step_of_setting}
-use Rattle.duct_run.specs.Flat.{scope_inside}
-use Rattle.duct_run.specs.ActionView.{setting_view}
-use Rattle.duct_run.specs.Settings.{Sets, hooks_of}
+use Rattle.duct_run.proofs.Common.{step_of_setting, scope_inside, setting_view, hooks_of}
+use Rattle.duct_run.specs.Settings.{Sets}
 use Rattle.duct_run.proofs.Setting.{hooks_of-more}
 use Rattle.duct_run.proofs.settings.Settings.add.Goals as goal
 

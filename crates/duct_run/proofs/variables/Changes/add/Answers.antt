@@ -1,6 +1,6 @@
 -- A change outside of variables that replace all others is not read.
 use Rattle.std.proofs.Common.{map, ◌∙◌, sym}
-use Rattle.duct_run.specs.Settings.{change_of}
+use Rattle.duct_run.proofs.Common.{change_of}
 use Rattle.duct_run.proofs.Gathering.{not_read}
 use Rattle.duct_run.proofs.variables.Changes.add.Goals as goal
 

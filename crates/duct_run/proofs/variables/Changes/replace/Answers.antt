@@ -1,7 +1,6 @@
 -- Of variables that replace all others the first count.
 use Rattle.std.proofs.Common.{map, ap, ◌∙◌, ◌++◌}
-use Rattle.duct_start.specs.Surroundings.{variable}
-use Rattle.duct_run.specs.Settings.{change_of, whole_of}
+use Rattle.duct_run.proofs.Common.{variable, change_of, whole_of}
 use Rattle.duct_run.proofs.Gathering.{first_kept}
 use Rattle.duct_run.proofs.variables.Changes.replace.Goals as goal
 

@@ -1,8 +1,7 @@
 use Rattle.std.proofs.Common.{sym, subst, ℕ, List}
 use Rattle.duct_status.specs.Endings.{Endings, Way}
-use Rattle.duct_status.specs.Outcome.{OutcomeView, waits, faults, finished, AnswersFor, AnswersOutcome}
+use Rattle.duct_running.proofs.Common.{OutcomeView, waits, faults, finished, AnswersFor, AnswersOutcome, IsConclusion}
 use Rattle.duct_status.specs.ReplyView.{ReplyView, noted, unknown, pending, faulted, answered, failed, no_memory}
-use Rattle.duct_running.specs.Polled.{IsConclusion}
 use Rattle.duct_running.proofs.running.Running.conclude.Goals as goal
 
 of_winner : (t : Endings) (way : Way t) (output error : List ℕ) (reply : ReplyView)

@@ -1,6 +1,5 @@
 use Rattle.std.proofs.Common.{◌≡◌, ◌++◌, refl, ap, sym, ◌∙◌, option_to_list}
-use Rattle.std.proofs.lemmas.List.{append-nil}
-use Rattle.duct_start.specs.Running.{RunningView}
+use Rattle.duct_running.proofs.Common.{append-nil, RunningView}
 use Rattle.duct_running.proofs.running.Running.into_parts.Goals as goal
 use Rattle.duct_running.proofs.running.Running.into_parts.Goals.{in-Some, in_default, in-Some-error, in_default-error}
 

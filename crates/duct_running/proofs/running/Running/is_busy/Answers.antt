@@ -1,10 +1,7 @@
 -- The core's words are those that the children store.
 use Rattle.std.proofs.Common.{ap, subst, ◌∙◌, ◌↔◌, Contains, IsTrue, List}
-use Rattle.duct_start.specs.Running.{RunningView}
-use Rattle.duct_status.specs.Latest.{Latest}
-use Rattle.duct_status.specs.declared.status.Word.{Word}
+use Rattle.duct_running.proofs.Common.{RunningView, Latest, Word, stored_in}
 use Rattle.duct_status.specs.declared.status.Word.TheVariants as word
-use Rattle.duct_running.specs.Stored.{stored_in}
 use Rattle.duct_running.proofs.running.Running.is_busy.Goals as goal
 
 pub returns : goal.returns

@@ -1,5 +1,5 @@
 use Rattle.std.proofs.Common.{◌≡◌, ap, map, sym, ◌∙◌, refl, rules, true≢false, IsTrue}
-use Rattle.duct_status.specs.ShapeView.{shape_view}
+use Rattle.duct_running.proofs.Common.{shape_view}
 use Rattle.duct_running.proofs.Numbered.{numbers_same, own_numbers, numbers_own}
 use Rattle.duct_running.proofs.running.Running.is_of.Goals as goal
 

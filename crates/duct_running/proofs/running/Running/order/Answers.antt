@@ -1,6 +1,5 @@
-use Rattle.std.proofs.lemmas.List.{length-set}
+use Rattle.duct_running.proofs.Common.{length-set, RunningView}
 use Rattle.std.proofs.Common.{ap, sym, ◌∙◌, map, option_map}
-use Rattle.duct_start.specs.Running.{RunningView}
 use Rattle.duct_running.proofs.Orders.{unordered_in, ordered_in, id_kept, words_in_order}
 use Rattle.duct_running.proofs.Polls.{named_in}
 use Rattle.duct_running.proofs.Told.{ordered_told}

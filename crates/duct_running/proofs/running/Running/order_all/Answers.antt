@@ -1,8 +1,6 @@
 use Rattle.std.proofs.Common.{◌≡◌, ◌+◌, ◌-◌, suc, [], ◌∷◌, refl, ap, sym, ◌∙◌, subst, map, length, vec_len, arith}
-use Rattle.std.proofs.lemmas.List.{length-map}
+use Rattle.duct_running.proofs.Common.{length-map, RunningView, OrderedIfDue, OrderAnswers}
 use Rattle.std.specs.Result.{result_and}
-use Rattle.duct_start.specs.Running.{RunningView}
-use Rattle.duct_running.specs.Ordered.{OrderedIfDue, OrderAnswers}
 use Rattle.duct_running.proofs.InTurn.{length_kept}
 use Rattle.duct_running.proofs.Orders.{OrderedFrom, none_ordered, one_more_ordered, leftmost_next}
 use Rattle.duct_running.proofs.running.Running.order_all.Goals as goal

@@ -1,6 +1,5 @@
 use Rattle.std.proofs.Common.{◌≡◌, List, length, map}
-use Rattle.duct_system.specs.Child.{Obeyed}
-use Rattle.duct_running.specs.Ordered.{leftmost}
+use Rattle.duct_running.proofs.Common.{Obeyed, leftmost}
 use Rattle.duct_running.proofs.Orders.{OrderedFrom}
 use Rattle.duct_running.proofs.running.Running.order_all.Given as goal
 

@@ -1,13 +1,6 @@
 use Rattle.std.proofs.Common.{◌≡◌, List, ap, arith, map, subst, sym, ◌∙◌, Bool, MatchBool, option_map, Option}
-use Rattle.duct_start.specs.Running.{RunningView}
-use Rattle.std.proofs.lemmas.List.{length-map}
-use Rattle.duct_system.specs.Job.{JobView}
+use Rattle.duct_running.proofs.Common.{RunningView, length-map, JobView, awaited, shape_view, views_of, AllAsked, AllPolled, IsOutcome, IsThereAndPolled, is_awaited, Bytes, stored_in, stored_latest}
 use Rattle.duct_system.specs.declared.system.Side.TheVariants as side
-use Rattle.duct_status.specs.Outcome.{awaited}
-use Rattle.duct_status.specs.ShapeView.{shape_view}
-use Rattle.duct_run.proofs.Seeing.{views_of}
-use Rattle.duct_running.specs.Polled.{AllAsked, AllPolled, IsOutcome, IsThereAndPolled, is_awaited}
-use Rattle.duct_running.specs.Stored.{Bytes, stored_in, stored_latest}
 use Rattle.duct_running.proofs.Pending.{one_runs}
 use Rattle.duct_running.proofs.running.Running.poll.Goals as goal
 

@@ -1,8 +1,5 @@
-use Rattle.duct_status.specs.ShapeView.{command_count, input_count, shape_view}
-use Rattle.std.proofs.lemmas.List.{length-set}
+use Rattle.duct_running.proofs.Common.{command_count, input_count, shape_view, length-set, RunningView, ChildView}
 use Rattle.std.proofs.Common.{ap, sym, ◌∙◌, map, option_map}
-use Rattle.duct_start.specs.Running.{RunningView}
-use Rattle.duct_system.specs.Child.{ChildView}
 use Rattle.duct_running.proofs.Polls.{not_asked_in, asked_in, named_in, words_in_step}
 use Rattle.duct_running.proofs.Told.{polled_told}
 use Rattle.duct_running.proofs.running.Running.poll_child.Goals as goal

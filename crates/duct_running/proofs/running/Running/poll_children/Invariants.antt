@@ -1,7 +1,6 @@
 use Rattle.std.proofs.Common.{◌≡◌, length, map}
-use Rattle.duct_status.specs.ShapeView.{shape_view}
+use Rattle.duct_running.proofs.Common.{shape_view, AskedIfDue}
 use Rattle.duct_running.proofs.InTurn.{ChangedTo}
-use Rattle.duct_running.specs.Polled.{AskedIfDue}
 use Rattle.duct_running.proofs.running.Running.poll_children.Given as goal
 
 abbrev pub invariant-loop-at : goal.invariant-loop-at

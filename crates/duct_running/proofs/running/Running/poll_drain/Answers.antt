@@ -1,6 +1,5 @@
 use Rattle.std.proofs.Common.{ap, sym, ◌∙◌}
-use Rattle.duct_start.specs.Running.{RunningView}
-use Rattle.duct_run.proofs.Seeing.{views_of}
+use Rattle.duct_running.proofs.Common.{RunningView, views_of}
 use Rattle.duct_running.proofs.Jobs.{left, polled, test_is}
 use Rattle.duct_running.proofs.Told.{drain_holds}
 use Rattle.duct_running.proofs.running.Running.poll_drain.Goals as goal

@@ -1,7 +1,5 @@
-use Rattle.duct_status.specs.ShapeView.{command_count, input_count, shape_view}
-use Rattle.std.proofs.lemmas.List.{length-set}
+use Rattle.duct_running.proofs.Common.{command_count, input_count, shape_view, length-set, RunningView}
 use Rattle.std.proofs.Common.{ap, sym, ◌∙◌, map, option_map}
-use Rattle.duct_start.specs.Running.{RunningView}
 use Rattle.duct_running.proofs.Jobs.{not_asked_in, asked_in, words_in_step}
 use Rattle.duct_running.proofs.Told.{feed_told}
 use Rattle.duct_running.proofs.running.Running.poll_feed.Goals as goal

@@ -1,6 +1,5 @@
 use Rattle.std.proofs.Common.{◌≤◌, refl, sym, ◌∙◌, map, length, arith, rules}
-use Rattle.std.proofs.lemmas.List.{length-map}
-use Rattle.duct_running.specs.Polled.{PolledIfRuns}
+use Rattle.duct_running.proofs.Common.{length-map, PolledIfRuns}
 use Rattle.duct_running.proofs.InTurn.{one_more_changed, all_changed, length_kept}
 use Rattle.duct_running.proofs.running.Running.poll_feeds.Goals as goal
 

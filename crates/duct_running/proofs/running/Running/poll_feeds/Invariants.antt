@@ -1,7 +1,6 @@
 use Rattle.std.proofs.Common.{◌≡◌, length, map}
-use Rattle.duct_status.specs.ShapeView.{shape_view}
+use Rattle.duct_running.proofs.Common.{shape_view, PolledIfRuns}
 use Rattle.duct_running.proofs.InTurn.{ChangedTo}
-use Rattle.duct_running.specs.Polled.{PolledIfRuns}
 use Rattle.duct_running.proofs.running.Running.poll_feeds.Given as goal
 
 abbrev pub invariant-loop-at : goal.invariant-loop-at

@@ -1,6 +1,5 @@
 use Rattle.std.proofs.Common.{arith, refl}
-use Rattle.duct_tasks.specs.Turns.{failed_of, running_of}
-use Rattle.duct_tasks.specs.declared.task.Task.{Task}
+use Rattle.duct_tasks.proofs.Common.{failed_of, running_of, Task}
 use Rattle.duct_tasks.proofs.Counting.{changed, either}
 use Rattle.duct_tasks.proofs.Turning.{goes_at}
 use Rattle.duct_tasks.proofs.crew.Crew+S+End+H+Running+S.poll.Goals as goal

@@ -1,5 +1,5 @@
 use Rattle.std.proofs.Common.{ap, ◌∙◌}
-use Rattle.duct_tasks.specs.declared.many.Tasks.{Tasks}
+use Rattle.duct_tasks.proofs.Common.{Tasks}
 use Rattle.duct_tasks.proofs.Turning.{goes_on}
 use Rattle.duct_tasks.proofs.crew.Crew+S+End+H+Running+S.poll_all.Goals as goal
 

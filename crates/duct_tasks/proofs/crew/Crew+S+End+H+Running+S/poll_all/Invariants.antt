@@ -1,6 +1,5 @@
 use Rattle.std.proofs.Common.{◌≡◌, length}
-use Rattle.duct_run.proofs.Seeing.{views_of}
-use Rattle.duct_tasks.specs.Turns.{Goes}
+use Rattle.duct_tasks.proofs.Common.{views_of, Goes}
 use Rattle.duct_tasks.proofs.crew.Crew+S+End+H+Running+S.poll_all.Given as goal
 
 abbrev pub invariant-loop-at : goal.invariant-loop-at

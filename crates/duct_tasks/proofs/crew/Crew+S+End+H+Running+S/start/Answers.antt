@@ -1,9 +1,5 @@
 use Rattle.std.proofs.Common.{◌≡◌, ◌∙◌, arith, ap, sym, false, true, subst, length, ℕ, List, get_or, sum_by}
-use Rattle.std.proofs.lemmas.List.Sums.{sum_by_push}
-use Rattle.duct.specs.declared.expression.Expression.{Expression}
-use Rattle.duct_run.proofs.Seeing.{views_of}
-use Rattle.duct_tasks.specs.Turns.{Turn, failed_of, running_of}
-use Rattle.duct_tasks.specs.declared.task.Task.{Task}
+use Rattle.duct_tasks.proofs.Common.{sum_by_push, Expression, views_of, Turn, failed_of, running_of, Task}
 use Rattle.duct_tasks.proofs.Counting.{either}
 use Rattle.duct_tasks.proofs.Ends.{not_stopped}
 use Rattle.duct_tasks.proofs.Turning.{goes_next}

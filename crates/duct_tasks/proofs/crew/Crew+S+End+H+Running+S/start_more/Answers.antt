@@ -1,5 +1,5 @@
 use Rattle.std.proofs.Common.{arith, ap, inr, ◌∙◌}
-use Rattle.duct_tasks.specs.declared.many.Tasks.{Tasks}
+use Rattle.duct_tasks.proofs.Common.{Tasks}
 use Rattle.duct_tasks.proofs.Turning.{goes_on}
 use Rattle.duct_tasks.proofs.crew.Crew+S+End+H+Running+S.start_more.Goals as goal
 

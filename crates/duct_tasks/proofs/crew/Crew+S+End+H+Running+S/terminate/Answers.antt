@@ -1,8 +1,5 @@
 use Rattle.std.proofs.Common.{◌≡◌, ◌+◌, ◌<◌, arith, ◌∙◌, refl, subst, ℕ, suc, false, true, length, set}
-use Rattle.std.proofs.lemmas.List.{length-set}
-use Rattle.duct_run.proofs.Seeing.{views_of}
-use Rattle.duct_tasks.specs.Turns.{Advances, failed_of, running_of}
-use Rattle.duct_tasks.specs.declared.task.Task.{Task}
+use Rattle.duct_tasks.proofs.Common.{length-set, views_of, Advances, failed_of, running_of, Task}
 use Rattle.duct_tasks.proofs.Counting.{ChangedBelow, all_changed, changed, next_changed}
 use Rattle.duct_tasks.proofs.crew.Crew+S+End+H+Running+S.terminate.Goals as goal
 

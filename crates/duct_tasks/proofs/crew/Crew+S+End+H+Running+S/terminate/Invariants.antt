@@ -1,6 +1,5 @@
 use Rattle.std.proofs.Common.{◌≡◌, false, true, length}
-use Rattle.duct_run.proofs.Seeing.{views_of}
-use Rattle.duct_tasks.specs.Turns.{Advances}
+use Rattle.duct_tasks.proofs.Common.{views_of, Advances}
 use Rattle.duct_tasks.proofs.Counting.{ChangedBelow}
 use Rattle.duct_tasks.proofs.crew.Crew+S+End+H+Running+S.terminate.Given as goal
 

@@ -1,4 +1,4 @@
-use Rattle.duct_run.proofs.Seeing.{views_of}
+use Rattle.duct_tasks.proofs.Common.{views_of}
 use Rattle.duct_tasks.proofs.Staying.{alike}
 use Rattle.duct_tasks.proofs.grace.Asked.wait.Goals as goal
 
