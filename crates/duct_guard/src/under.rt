@@ -31,7 +31,8 @@ pub struct Under<S, T> {
 /// Reads what an expression prints, as `Expression::read` does, over a guard of this system with
 /// this policy. What is forbidden fails with `PermissionDenied`; the system is asked nothing else
 /// than what the policy allows, and nothing more is held than its limits. The policy is dropped. It
-/// returns what `Expression::read` returns there, and leaves the same in the pool.
+/// returns what `Expression::read` returns there, and leaves the same in the pool. The system's
+/// journal has to be empty, as after `clear_journal`.
 ///
 /// Example: `read_under(&rt, system, &mut pool, Programs::new(tools), &step)`
 pub fn read_under<S: System, P: Policy + Drop, H: Hook>(

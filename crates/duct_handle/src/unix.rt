@@ -13,8 +13,8 @@ pub trait HandleExt {
     /// What `send_signal` may return for a signal.
     ghost obeyed: { Self → ℤ → Result (Unit {0}) Error → Type 0 };
 
-    /// Sends a signal, by its number, to each command that is not known as ended, from left to
-    /// right. Where one can't be sent it, the others still are. It doesn't reach what the commands
+    /// Sends a signal, by its number, to each command that is not known as ended, from right to
+    /// left. Where one can't be sent it, the others still are. It doesn't reach what the commands
     /// started themselves, and doesn't wait until a command has ended.
     ///
     /// The system decides which numbers it serves. A `Host` serves 1, 2, 3, 6, 9, 14 and 15. Number

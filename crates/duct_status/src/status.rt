@@ -331,7 +331,7 @@ impl Core {
         }
     }
 
-    /// Returns whether the latest report of a command is that it runs, as it is before the first one.
+    /// Returns whether the latest report of a command is that it runs, as it is before the first.
     pub fn is_busy(&self) -> bool
         ensures { IsTrue result ↔ Contains (latest_in self.now).commands Running }
     {

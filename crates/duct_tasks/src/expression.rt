@@ -10,9 +10,9 @@ use duct_system::views::Viewed;
 use std::sync::Wait;
 
 /// Starts an expression as `Expression::start` does, and again each time that the start fails with
-/// an error that `is_transient` calls transient, at most `most` times in all. Returns what the last
-/// start returned. Each start follows the expression's plan, and gives what it leaves running to
-/// the pool. It doesn't pause between two starts, unless `is_transient` does.
+/// an error that `is_transient` calls transient, at most `most` times in all, which is not 0.
+/// Returns what the last start returned. Each start follows the expression's plan, and gives what it
+/// leaves running to the pool. It doesn't pause between two starts, unless `is_transient` does.
 ///
 /// Example: `start_attempts(&mut host, &mut pool, &server, 3, is_busy)?`
 pub fn start_attempts<S: System, H: Hook, F: Fn(&Error) -> bool>(
@@ -43,9 +43,9 @@ pub fn start_attempts<S: System, H: Hook, F: Fn(&Error) -> bool>(
 }
 
 /// Runs an expression as `Expression::run` does, and again each time that the run fails with an
-/// error that `is_transient` calls transient, at most `most` times in all. Returns what the last
-/// run returned. It blocks while one runs, and doesn't pause between two, unless `is_transient`
-/// does.
+/// error that `is_transient` calls transient, at most `most` times in all, which is not 0. Returns
+/// what the last run returned. It blocks while one runs, and doesn't pause between two, unless
+/// `is_transient` does.
 ///
 /// Example: `run_attempts(&rt, &mut host, &mut pool, &fetch, 3, is_checked)?`
 pub fn run_attempts<S: System, H: Hook, F: Fn(&Error) -> bool>(

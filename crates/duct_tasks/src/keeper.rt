@@ -72,18 +72,18 @@ fn longer(pause: Duration, restarts: &Restarts) -> Duration {
 /// has ended, and then, after a pause, starts it again, whether it succeeded or failed. It never
 /// starts it while a command of it may still run, and never more than `restarts.most` times.
 ///
-/// `stop` says whether to stop. It is asked before each start, at each poll, and as often in a
-/// pause. What runs then is sent signal 15, and what is not known to have ended after the grace is
-/// killed. Nothing waits for what was killed.
+/// `stop` says whether to stop. It is asked before each start, after each poll that finds no end,
+/// and again and again in a pause; not in the grace. What runs then is sent signal 15, and what is
+/// not known to have ended after the grace is killed. Nothing waits for what was killed.
 ///
 /// `tell` is called with the place of a start, from 0 on, where it starts and where it ends. A kill
 /// is not told.
 ///
 /// Returns how often it was started, why it is not started again, and how it ended the last time. A
 /// failure of the commands themselves (`Error::Checked`) is an end like a success. Every other
-/// error ends the keep, since a command may still run after it: a start that the system refuses, a
+/// error ends the call, since a command may still run after it: a start that the system refuses, a
 /// poll that fails, or `Error::Memory`. The children of what failed or was killed are given to the
-/// pool, and it allocates nothing else.
+/// pool. Only starts and polls allocate.
 ///
 /// It blocks until then.
 ///

@@ -4,8 +4,8 @@ ghost use Rattle.std.specs.Fn.{FnReturnsAt};
 ghost use Rattle.duct_tasks.specs.Turns.{Attempts, FnReturnsAtPairMut};
 
 /// Calls `attempt`, and again each time that it fails with an error that `is_transient` calls
-/// transient, at most `most` times in all. Returns what the last call returned. It doesn't pause
-/// between two calls, unless `is_transient` does.
+/// transient, at most `most` times in all, which is not 0. Returns what the last call returned. It
+/// doesn't pause between two calls, unless `is_transient` does.
 ///
 /// Example: `attempts(&mut host, &mut pool, 3, is_busy, |host, pool| step.read(&rt, host, pool))?`
 pub fn attempts<S, P, T, E: Drop, F, A>(
