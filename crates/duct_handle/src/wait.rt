@@ -54,7 +54,8 @@ impl<S: System> Handle<S> {
     /// zero. It polls at least once, and reads the clock after each poll that doesn't end the wait.
     /// At the moment or later it returns what the last poll returned: `None` while the expression
     /// runs, or a fault, also while a command runs. Nothing is killed then. It may return late by
-    /// one pause, of at most 50 milliseconds.
+    /// one pause, of at most 50 milliseconds, and by as long as a `send_signal` of another thread
+    /// holds the lock.
     pub fn wait_deadline_as<C: Clock>(
         &self,
         rt: &impl Wait,

@@ -1,4 +1,4 @@
-//! What a line of words will request, and what the program `plan` prints of that.
+//! What a line of words will request, and what `trace plan` prints of that.
 ghost use Rattle.std.specs.Prelude.{◌≡◌, ◌≤◌, ℕ, List, map, string_bytes, IfErr, IfOk, IsOk, OnOk};
 ghost use Rattle.std.specs.Io.KnownBytes.{Appends};
 ghost use Rattle.duct_program.specs.Parsed.{RefusesAs};
@@ -48,12 +48,12 @@ pub fn drawing(alloc: Global, args: &[String]) -> Result<String, Usage>
     Ok(PlanDot(&plan_of_reader(alloc, &expression)?).to_string(alloc)?)
 }
 
-/// Does the program's work and returns its exit status. What the arguments' start requests is
+/// Does the work of `trace plan` and returns its exit status. What the arguments' start requests is
 /// written to `out`, and the status is 0: as `preview` has it or, where the first argument is
 /// `--dot`, as `drawing` has it for the arguments after that. An error in the arguments is written
 /// to `err` with `plan: ` before it and a newline after it, and the status is 2; at an allocation
-/// failure that is said so, and the status is 1. The status is also 1 where the write fails; a part
-/// of the text may then be written. It blocks as the writers do.
+/// failure it is `plan: out of memory`, and the status is 1. The status is also 1 where the write
+/// fails; a part of the text may then be written. It blocks as the writers do.
 pub fn print<O: Write, E: Write>(alloc: Global, args: &[String], out: &mut O, err: &mut E) -> u8
     ensures text { result ≡ 0 → (text : List ℕ)
         × IsPrinted (asked_of (map string_bytes args.now)) text

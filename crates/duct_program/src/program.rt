@@ -21,7 +21,8 @@ use std::sync::Wait;
 
 /// Returns what the expression of these arguments prints to stdout, read as `Expression::read`
 /// reads it; it blocks and fails as that does. Where the arguments are no valid line, or an
-/// allocation fails while they are read, it fails with `Failure::Usage` and makes no request.
+/// allocation fails while they are read, it fails with `Failure::Usage` and makes no request. The
+/// children that a failed read leaves run on, and nothing waits for them.
 pub fn answer<S: System, H: Hook + Drop>(
     rt: &impl Wait,
     alloc: Global,

@@ -32,9 +32,9 @@ pub trait Records: System {
 
 /// A system over another one that notes what no journal has: how children ended, and which bytes
 /// were read, by a worker or by a reader to EOF, of ends that `pipe`, `open_read` and `duplicate`
-/// returned. So a replay of its `recording` returns what was returned here. `clear_journal` drops what
-/// was noted: the recording then has what came after it alone, and not how children ended that were
-/// started before.
+/// returned. So a replay of its `recording` returns what was returned here. `clear_journal` drops
+/// what was noted: the recording then has what came after it alone, and not how children ended that
+/// were started before.
 ///
 /// Each request is passed on as it is, once, and returns what the system below returns; so does
 /// each poll, order and read. The journal is that of the system below. No request fails by a note

@@ -11,8 +11,9 @@ use std::sync::Wait;
 
 /// Starts an expression as `Expression::start` does, and again each time that the start fails with
 /// an error that `is_transient` calls transient, at most `most` times in all, which is not 0.
-/// Returns what the last start returned. Each start follows the expression's plan, and gives what it
-/// leaves running to the pool. It doesn't pause between two starts, unless `is_transient` does.
+/// Returns what the last start returned. Each start follows the expression's plan, and gives what
+/// it leaves running to the pool. It doesn't pause between two starts, unless `is_transient`
+/// does.
 ///
 /// Example: `start_attempts(&mut host, &mut pool, &server, 3, is_busy)?`
 pub fn start_attempts<S: System, H: Hook, F: Fn(&Error) -> bool>(

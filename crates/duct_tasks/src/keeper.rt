@@ -74,7 +74,8 @@ fn longer(pause: Duration, restarts: &Restarts) -> Duration {
 ///
 /// `stop` says whether to stop. It is asked before each start, after each poll that finds no end,
 /// and again and again in a pause; not in the grace. What runs then is sent signal 15, and what is
-/// not known to have ended after the grace is killed. Nothing waits for what was killed.
+/// not known to have ended after the grace is killed. Nothing waits for what was killed. A poll that
+/// fails in the grace ends it: nothing is killed then, and commands may run on in the pool.
 ///
 /// `tell` is called with the place of a start, from 0 on, where it starts and where it ends. A kill
 /// is not told.

@@ -102,11 +102,11 @@ pub(crate) fn launch_until<E: Drop, H: Hook, S: System<End = E>, C: Clock>(
 /// Where the clock shows the moment or a later one while the expression has not ended, it is
 /// stopped: each command that is not known to have ended is sent signal 15, and each that is still
 /// not known to have ended at the end of the grace, or once a poll finds a fault while no command
-/// runs, is killed, each once and from right to left. Nothing waits for what was killed: the children are given to the pool, where a
-/// sweep reaps them. That it was stopped is no error but `Until::Late`, with how it ended and what
-/// the kill returned. A command is sent neither once it is known to have ended; and a command whose
-/// order finds no memory to be noted gets the other one alone, or none. An allocation failure of a
-/// poll doesn't end the grace: it is polled again.
+/// runs, is killed, each once and from right to left. Nothing waits for what was killed: the
+/// children are given to the pool, where a sweep reaps them. That it was stopped is no error but
+/// `Until::Late`, with how it ended and what the kill returned. A command is sent neither once it is
+/// known to have ended; and a command whose order finds no memory to be noted gets the other one
+/// alone, or none. An allocation failure of a poll doesn't end the grace: it is polled again.
 ///
 /// The call blocks until then, and returns late by the pause between two polls, at most 50
 /// milliseconds, and by as long as the signal takes: over a `Host` that waits for a shell for each

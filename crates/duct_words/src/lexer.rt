@@ -56,7 +56,7 @@ struct Lexer {
 /// backslash in it quotes `"`, `\`, `$` and a backtick; a backslash outside quotes the next
 /// character; and a backslash before a newline is left out with it.
 ///
-/// Nothing is expanded, and no character passes by which a shell would expand or obey. Fails with
+/// Nothing is expanded, and no character passes that a shell would expand or obey. Fails with
 /// `SplitError::Unquoted` at a newline and at each of `` $ ` * ? [ ~ # ; & ( ) { } ! `` that isn't
 /// quoted; at an `=` in the first word of a command, which is an assignment there, behind
 /// redirections too; at a second operator directly behind one, as in `>>`; and at a number directly
