@@ -3,6 +3,7 @@ pub mod Beginning
 pub mod Finishing
 pub mod Closing
 pub mod Obeying
+pub mod Reporting
 pub mod Polling
 pub mod Sharing
 pub mod Threads

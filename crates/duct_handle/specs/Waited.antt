@@ -4,6 +4,7 @@ use Rattle.std.specs.declared.alloc.Global.{Global}
 use Rattle.std.specs.declared.sync.Arc.{Arc}
 use Rattle.duct_system.specs.declared.error.Error.{Error}
 use Rattle.duct_system.specs.declared.error.Error.TheVariants as error
+use Rattle.duct_system.specs.declared.system.Kind.TheVariants.{Other}
 use Rattle.duct_system.specs.declared.system.Output.{Output}
 use Rattle.duct_status.specs.ShapeView.{shape_view}
 use Rattle.duct_system.specs.SystemViews.{SystemViews}
@@ -25,6 +26,10 @@ pub record IsOf (handle : HandleView) (polled : Polled) (known : PublishedView) 
 abbrev pub IsNoEnding : Error → Type 0
 IsNoEnding (error.Checked text) = ⊥
 IsNoEnding other = Unit {0}
+
+-- no memory, or that what the lock holds differs from what the handle was made of
+abbrev pub IsMemoryOrOther : Error → Type 0
+IsMemoryOrOther e = (e ≡ error.Memory) ⊎ (e ≡ error.System (record { kind = Other }))
 
 -- if the result is an output or a checked failure, the token knows it
 abbrev pub KnowsIfEnded : HandleView → SeenView → Polled → Type 0

@@ -4,23 +4,25 @@ ghost use Rattle.std.specs.Prelude.{◌≡◌, IfOk, IfErr, IfSome, is_some, tru
 ghost use Rattle.std.specs.Arc.{arc_value};
 ghost use Rattle.std.specs.Sync.Mutex.{mutex_guard_value};
 ghost use Rattle.duct_status.specs.ShapeView.{shape_view};
-ghost use Rattle.duct_running.specs.Allowed.{OneRuns};
+ghost use Rattle.duct_running.specs.Allowed.{HaveReported, OneRuns};
 ghost use Rattle.duct_running.specs.Answered.{IsAnswer};
 ghost use Rattle.duct_running.specs.NumbersView.{numbers_of, numbers_view};
 ghost use Rattle.duct_running.specs.Polled.{PolledOnce, StaysSame};
 ghost use Rattle.duct_running.specs.Stored.{AreUnasked};
 ghost use Rattle.duct_handle.specs.Obeyed.{IsObeyed, IsOrderedOnce};
-ghost use Rattle.duct_handle.specs.Waited.{IsNoEnding};
+ghost use Rattle.duct_handle.specs.Waited.{IsMemoryOrOther, IsNoEnding};
 
 use crate::orders::ordered;
 use crate::poll::{mismatch_error, poll_checked, same};
 use crate::published::Published;
+use crate::reports::reports;
 use duct_base::error::Error;
-use duct_base::status::Shape;
+use duct_base::status::{Shape, Word};
 use duct_base::system::{Order, System};
 use duct_running::numbers::Numbers;
 use duct_running::running::Running;
 use duct_system::views::Viewed;
+use std::alloc::Global;
 use std::sync::{Mutex, MutexGuard, Wait};
 
 // What runs, and what is published once it has ended.
@@ -126,6 +128,23 @@ impl<'a, S: System> Guard<'a, S> {
         let Guard { mut state } = self;
         let obeyed = ordered(&mut (*state).running, shape, numbers, order);
         (obeyed, SpentGuard { state })
+    }
+}
+
+impl<S: System> Guard<'_, S> {
+    /// Returns the latest report of each command of what runs. It fails where the shape or the
+    /// numbers differ from these.
+    pub(crate) fn reports(
+        self,
+        alloc: Global,
+        shape: &Shape,
+        numbers: &Numbers,
+    ) -> Result<Vec<Word>, Error>
+        ensures reports { IfOk result (λ words. HaveReported ⟦<S as Viewed>⟧.views
+            (numbers_view numbers.now).children words.items) }
+        ensures err { IfErr result IsMemoryOrOther }
+    {
+        reports(alloc, &self.state.running, shape, numbers)
     }
 }
 

@@ -52,7 +52,7 @@ fn owned_output(alloc: Global, output: Arc<Output>) -> Result<Output, Error>
 /// Returns what follows a wait: the output itself, copied only where another owner shares it; the
 /// pool is then left as it was. Where the wait failed, or the copy at an allocation failure, the
 /// children are given to the pool.
-pub(crate) fn output_or_give_up<S: System>(
+pub fn output_or_give_up<S: System>(
     alloc: Global,
     running: Running<S>,
     waited: Result<Arc<Output>, Error>,

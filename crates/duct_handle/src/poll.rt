@@ -25,8 +25,9 @@ pub(crate) fn mismatch_error() -> Error
     Error::System(Fault::new(Kind::Other))
 }
 
-// Polls what runs, once. The result is concluded from what was reported under its numbers.
-pub(crate) fn polled<S: System>(running: &mut Running<S>) -> Result<Option<Arc<Output>>, Error>
+/// Polls what runs, once, as `Running::poll` does. The result is concluded from what was reported
+/// under its numbers.
+pub fn polled<S: System>(running: &mut Running<S>) -> Result<Option<Arc<Output>>, Error>
     ensures polls { PolledOnce ⟦<S as Viewed>⟧.views running.old running.new }
     ensures stays { StaysSame ⟦<S as Viewed>⟧.views running.old running.new }
     ensures outcome { ReturnsOutcome ⟦<S as Viewed>⟧.views running.new result }

@@ -1,6 +1,7 @@
 -- Each result that a child or a worker stores is one that a child or a worker of its number may
 -- return.
-use Rattle.std.specs.Prelude.{ℕ, ◌⊎◌, ◌++◌, List, All, Contains, IfSome, map, Ok, Some, None, option_map, option_to_list, Option}
+use Rattle.std.specs.Prelude.{ℕ, ◌⊎◌, ◌++◌, List, All, Contains, IfSome, map, Ok, Err, Some, None, option_map, option_to_list, Option}
+use Rattle.std.specs.List.{AllZip}
 use Rattle.duct_system.specs.Child.{Answer, ChildView}
 use Rattle.duct_system.specs.Job.{JobView}
 use Rattle.duct_system.specs.declared.system.Said.{Said}
@@ -10,6 +11,7 @@ use Rattle.duct_system.specs.SystemViews.{SystemViews}
 use Rattle.duct_running.specs.Polled.{WhileRuns}
 use Rattle.duct_running.specs.NumbersView.{NumbersView}
 use Rattle.duct_running.specs.Stored.{Bytes, stored_in}
+use Rattle.duct_status.specs.declared.status.Word.{Word}
 use Rattle.duct_status.specs.declared.status.Word.TheVariants as word
 
 -- a child of this number may return the result of the last poll, and the ending
@@ -41,6 +43,16 @@ module _ {S E C F D : Type 0} (views : SystemViews S E C F D (Unit {0}) Bytes) w
       AnswersAllowed views.may_answer views.feed_says views.drain_says
       (map views.child running.children) (map views.feed running.feeds)
       (option_map views.drain running.output) (option_map views.drain running.error)
+
+  -- a child of this number may report this, as it may that it runs before its first poll
+  abbrev pub MayReport : ℕ → Word → Type 0
+  MayReport number (word.Ended status) = views.may_answer number (Ok (Some status))
+  MayReport number (word.Fault fault) = views.may_answer number (Err fault)
+  MayReport number word.Running = Unit {0}
+
+  -- children of these numbers may have reported these, each its own
+  abbrev pub HaveReported : List ℕ → List Word → Type 0
+  HaveReported numbers words = ∥ AllZip MayReport numbers words ∥₁
 
   -- a child stores that it runs, as it does before its first poll
   abbrev pub OneIsRunning : RunningView C F D → Type 0

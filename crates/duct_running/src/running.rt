@@ -8,7 +8,7 @@ ghost use Rattle.duct_status.specs.Latest.{latest_told};
 ghost use Rattle.duct_status.specs.ReplyView.{reply_view};
 ghost use Rattle.duct_status.specs.ShapeView.{command_count, input_count, shape_view};
 ghost use Rattle.duct_running.specs.Polled.{IsConclusion, Gives, ReturnsOutcome, ChildAskedAt, ChildrenAsked, FeedPolledAt, FeedsPolled, StreamPolled, is_awaited, PolledOnce};
-ghost use Rattle.duct_running.specs.Stored.{answer_word};
+ghost use Rattle.duct_running.specs.Stored.{answer_word, stored_in};
 ghost use Rattle.duct_running.specs.RunningInvariant.{FitsShape};
 ghost use Rattle.duct_run.specs.Requested.{HoldsUnasked};
 ghost use Rattle.duct_running.specs.NumbersView.{numbers_of};
@@ -19,7 +19,7 @@ mod orders;
 use duct_base::error::Error;
 use duct_base::per_side::PerSide;
 use duct_base::pool::Place;
-use duct_base::status::{Core, Event, Reply, Word};
+use duct_base::status::{Core, Event, Reply, Shape, Word};
 use duct_base::system::{Child, ExitStatus, Fault, Job, Output, Side, System};
 use duct_run::resources::Resources;
 use duct_system::views::Viewed;
@@ -167,6 +167,22 @@ impl<S: System> Running<S> {
         ensures { IsTrue result ↔ OneIsRunning ⟦<S as Viewed>⟧.views self.now }
     {
         self.core.is_busy()
+    }
+
+    /// Returns the latest report of each command, from left to right: its exit status once a poll
+    /// has returned one, the fault of its last poll, or `Running`. It allocates nothing.
+    pub fn reports(&self) -> &[Word]
+        ensures { result.now ≡ (stored_in S.Child.child_view S.Feed.job_view S.Drain.job_view
+            self.now).commands }
+    {
+        self.core.reports()
+    }
+
+    /// Returns the shape of the expression that runs, which has the words of each command.
+    pub fn shape(&self) -> &Shape
+        ensures { shape_view result.now ≡ shape_view self.now.shape }
+    {
+        self.core.shape()
     }
 
     /// Does nothing. Its contract says that each result which a child or a worker stores is one

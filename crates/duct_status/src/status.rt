@@ -353,6 +353,13 @@ impl Core {
         awaited(self.found(), &self.drains)
     }
 
+    /// Returns the latest report of each command, from left to right.
+    pub fn reports(&self) -> &[Word]
+        ensures { result.now ≡ (latest_in self.now).commands }
+    {
+        &self.commands
+    }
+
     /// Returns the shape of the expression whose reports it stores.
     pub fn shape(&self) -> &Shape
         ensures { shape_view result.now ≡ shape_in self.now }

@@ -74,8 +74,10 @@ impl<S: System> Running<S> {
         give_all(pool, children);
     }
 
-    // Gives an order to the child at this place, if it has not ended.
-    fn order(&mut self, at: usize, order: Order) -> Result<(), Fault>
+    /// Gives an order to the command at this place, counted from 0 on the left, unless it is known
+    /// to have ended. It may wait for a program that the system runs to send a signal. Fails with
+    /// the fault of the order, as `kill` does.
+    pub fn order_at(&mut self, at: usize, order: Order) -> Result<(), Fault>
         requires { at < length self.old.children }
         ensures shape { self.new.shape ≡ self.old.shape }
         ensures ordered { ChildOrderedAt ⟦<S as Viewed>⟧.views order at self.old result self.new }
@@ -100,7 +102,7 @@ impl<S: System> Running<S> {
     {
         let mut answer = Ok(());
         for at in (0..self.children.len()).rev() {
-            answer = self.order(at, order).and(answer);
+            answer = self.order_at(at, order).and(answer);
         }
         result_of(answer)
     }

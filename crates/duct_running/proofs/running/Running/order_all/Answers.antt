@@ -33,18 +33,18 @@ loop-at-preserved g c =
     let back : c.loop-at.at ≡ suc at = omega arith in
     let children = map view c.args.self.now.children in
     let so_far = subst (λ n. OrderedFrom may c.args.order n children o.0 (map view c.loop-at.self.children)) back o.2 in
-    let same = length_kept (λ before. OrderedIfDue may c.args.order before c.order.result) at _ _ c.order.ensures.ordered in
+    let same = length_kept (λ before. OrderedIfDue may c.args.order before c.order_at.result) at _ _ c.order_at.ensures.ordered in
     record {
-      shape = c.order.ensures.shape ∙ i.shape;
+      shape = c.order_at.ensures.shape ∙ i.shape;
       ordered = (
-        c.order.result ∷ o.0,
-        c.and-answer.ensures ∙ ap (λ a. result_and c.order.result a) o.1 ∙ leftmost_next c.order.result o.0,
-        one_more_ordered may c.args.order at children o.0 (map view c.loop-at.self.children) (map view c.order.new.self.children) c.order.result so_far c.order.ensures.ordered,
+        c.order_at.result ∷ o.0,
+        c.and-answer.ensures ∙ ap (λ a. result_and c.order_at.result a) o.1 ∙ leftmost_next c.order_at.result o.0,
+        one_more_ordered may c.args.order at children o.0 (map view c.loop-at.self.children) (map view c.order_at.new.self.children) c.order_at.result so_far c.order_at.ensures.ordered,
       );
-      count = sym (length-map c.order.new.self.children view) ∙ same ∙ length-map c.loop-at.self.children view ∙ i.count;
-      feeds = c.order.ensures.feeds ∙ i.feeds;
-      output = c.order.ensures.output ∙ i.output;
-      error = c.order.ensures.error ∙ i.error;
+      count = sym (length-map c.order_at.new.self.children view) ∙ same ∙ length-map c.loop-at.self.children view ∙ i.count;
+      feeds = c.order_at.ensures.feeds ∙ i.feeds;
+      output = c.order_at.ensures.output ∙ i.output;
+      error = c.order_at.ensures.error ∙ i.error;
     }
 
 pub returns-clause-ordered : goal.returns-clause-ordered

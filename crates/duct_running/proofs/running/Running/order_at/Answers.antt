@@ -3,7 +3,7 @@ use Rattle.std.proofs.Common.{ap, sym, ◌∙◌, map, option_map}
 use Rattle.duct_running.proofs.Orders.{unordered_in, ordered_in, id_kept, words_in_order}
 use Rattle.duct_running.proofs.Polls.{named_in}
 use Rattle.duct_running.proofs.Told.{ordered_told}
-use Rattle.duct_running.proofs.running.Running.order.Goals as goal
+use Rattle.duct_running.proofs.running.Running.order_at.Goals as goal
 
 pub returns-then-not-is_due-clause-ordered : goal.returns-then-not-is_due-clause-ordered
 returns-then-not-is_due-clause-ordered g c =
