@@ -1,4 +1,6 @@
+pub mod Hidden
 pub mod Line
 pub mod Quote
 pub mod ShellText
 pub mod Split
+pub mod Variables

@@ -77,10 +77,20 @@ lexer_view lexer = record {
   at_path = lexer.at_path;
 }
 
--- before the first byte
+-- before the first byte, where a shell takes the first word for an assignment or a command, or not
+abbrev pub start_at : Bool → State
+start_at at_command = record {
+  tokens = [];
+  word = [];
+  part = Gap;
+  mode = Bare;
+  at_command = at_command;
+  at_path = false;
+}
+
+-- before the first byte of a text
 abbrev pub start : State
-start =
-    record { tokens = []; word = []; part = Gap; mode = Bare; at_command = true; at_path = false }
+start = start_at true
 
 -- with an unquoted part of a word, which leaves a word quoted that was so
 abbrev pub ordinary : State → List ℕ → State

@@ -2,6 +2,7 @@
 ghost use Rattle.std.specs.Prelude.{◌≡◌};
 ghost use Rattle.duct_words.specs.declared.error.ShellTextError.TheVariants as shells;
 ghost use Rattle.duct_words.specs.declared.error.SplitError.TheVariants as splits;
+ghost use Rattle.duct_words.specs.declared.error.VariablesError.TheVariants as pairs;
 
 use duct_program::Usage;
 use std::alloc::{AllocError, AllocFailed};
@@ -51,6 +52,43 @@ pub enum LineError {
     /// an allocation failed. The first error, from left to right, is named.
     #[error("{0}")]
     Usage(Usage),
+}
+
+/// Why a text has no variables. The first reason, from top to bottom, is named, with the number of
+/// its line, from 1 on.
+#[derive(Clone, Copy, Debug, PartialEq, Eq, Drop, Error)]
+pub enum VariablesError {
+    /// The line has no words. The place is the index of a byte of the line.
+    #[error("line {line}: {error}")]
+    Split { line: usize, error: SplitError },
+    /// The line is not one word with a `=`.
+    #[error("line {line}: no name=value")]
+    NoPair { line: usize },
+    /// What stands before the first `=` is no name.
+    #[error("line {line}: no name before the =")]
+    Name { line: usize },
+    /// An earlier line has this name, in this spelling or another one.
+    #[error("line {line}: a name for the second time")]
+    Twice { line: usize },
+    /// An allocation failed.
+    #[error("out of memory")]
+    Memory,
+}
+
+impl From<AllocError> for VariablesError {
+    ghost from_gives = { λ _ error. error ≡ pairs.Memory };
+
+    fn from(_error: AllocError) -> VariablesError {
+        VariablesError::Memory
+    }
+}
+
+impl<T: Drop> From<AllocFailed<T>> for VariablesError {
+    ghost from_gives = { λ _ error. error ≡ pairs.Memory };
+
+    fn from(_error: AllocFailed<T>) -> VariablesError {
+        VariablesError::Memory
+    }
 }
 
 /// Why an expression has no text. The first reason, from left to right, is named: a node comes

@@ -2,7 +2,7 @@
 ghost use Rattle.std.specs.Prelude.{◌≡◌, map, encode_utf8};
 ghost use Rattle.std.specs.Char.{is_ascii_digit};
 ghost use Rattle.std.specs.List.{list_all};
-ghost use Rattle.duct_words.specs.Split.{ParsesAs, bare, double, double_escaped, end_of, escaped, finished, is_number, lexer_view, operator, ordinary, redirection, single, split_of, step, token_view};
+ghost use Rattle.duct_words.specs.Split.{ParsesAs, bare, double, double_escaped, end_of, escaped, finished, is_number, lexer_view, operator, ordinary, read, redirection, single, split_of, start_at, step, token_view};
 ghost use Rattle.duct_words.specs.declared.error.SplitError.TheVariants.{Unquoted};
 
 use crate::error::SplitError;
@@ -69,13 +69,26 @@ struct Lexer {
 pub fn split(alloc: Global, text: &str) -> Result<Vec<Token>, SplitError>
     ensures { ParsesAs (λ tokens. map token_view tokens.items) result (split_of text.now) }
 {
+    tokens_of(alloc, text, true)
+}
+
+/// Returns the tokens of a text as `split` does, where a shell may take its first word for an
+/// assignment or a command, or may not.
+pub(crate) fn tokens_of(
+    alloc: Global,
+    text: &str,
+    at_command: bool,
+) -> Result<Vec<Token>, SplitError>
+    ensures { ParsesAs (λ tokens. map token_view tokens.items) result
+        (read 0 (start_at at_command) text.now) }
+{
     let mut lexer = Lexer {
         alloc,
         tokens: Vec::new(alloc),
         word: String::new(alloc),
         part: Part::Gap,
         mode: Mode::Bare,
-        at_command: true,
+        at_command,
         at_path: false,
     };
     for (place, character) in text.char_indices() {

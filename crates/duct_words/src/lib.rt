@@ -1,18 +1,23 @@
 //! Words and command lines of a POSIX shell: the tokens of a text and a text of words, the
-//! expression of a text and a text of an expression.
+//! expression of a text and a text of an expression, files of variables, and a writer that hides
+//! secrets.
 #![tactic(auto)]
 
+mod environment;
 mod error;
 mod kind;
 mod lexer;
 mod quoted;
 mod reader;
+mod redacted;
 mod token;
 mod writer;
 
-pub use error::{LineError, ShellTextError, SplitError};
+pub use environment::{variables, with_variables};
+pub use error::{LineError, ShellTextError, SplitError, VariablesError};
 pub use lexer::split;
 pub use quoted::quote;
 pub use reader::parse;
+pub use redacted::Redacted;
 pub use token::Token;
 pub use writer::shell_text;

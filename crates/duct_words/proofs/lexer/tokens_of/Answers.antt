@@ -1,7 +1,7 @@
 -- What is read of a character is what is read of its bytes.
 use Rattle.std.proofs.lemmas.Result.{err_from_is_err_and}
 use Rattle.duct_words.proofs.Characters.{read_on, refused}
-use Rattle.duct_words.proofs.lexer.split.Goals as goal
+use Rattle.duct_words.proofs.lexer.tokens_of.Goals as goal
 
 pub loop-place-preserved : goal.loop-place-preserved
 loop-place-preserved c =
