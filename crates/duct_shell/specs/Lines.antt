@@ -1,15 +1,10 @@
--- The lines of bytes, calls at each of them, and the last of them.
+-- Calls at each line of bytes, and the last lines.
 use Rattle.std.specs.Prelude.{ℕ, ◌-◌, ◌≡◌, ◌≢◌, ◌⊎◌, List, [], ◌∷◌, ◌++◌, length, drop, nat_le, if◌then◌else◌}
 use Rattle.std.specs.Borrow.{Bor}
 use Rattle.std.specs.Fn.{CalledAt, Mut}
-use Rattle.std.specs.Io.BufRead.{drop_through, first_line}
+use Rattle.std.specs.Io.BufRead.{drop_through}
 use Rattle.std.specs.List.{FoldsTo}
-
--- bytes with these lines, each without its `\n` or `\r\n`; no line follows the last `\n`
-abbrev pub AreLines : List ℕ → List (List ℕ) → Type 0
-AreLines bytes [] = bytes ≡ []
-AreLines bytes (text ∷ texts) =
-    (bytes ≢ []) × (text ≡ first_line bytes) × AreLines (drop_through 10 bytes) texts
+use Rattle.duct_tasks.specs.Streams.{AreLines}
 
 -- a call of the closure f at a `&` to a text gave this, and left f'
 abbrev pub Gives : {F R : Type 0} → Mut F (Bor (List ℕ) × Unit {0}) R → R → F → List ℕ → F → Type 0

@@ -19,6 +19,7 @@
 //! `ReaderHandle` it is what the clause of the call of that name says.
 #![tactic(auto)]
 
+mod append;
 mod capture;
 mod chain;
 mod failed_run;

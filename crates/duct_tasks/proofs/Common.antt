@@ -20,8 +20,8 @@ pub use Rattle.duct_running.specs.Stored.{Bytes}
 pub use Rattle.duct.specs.Launched.{LaunchRefused, Launched, Runs, added_between, draining, drains_error, drains_output, StartKind, IsStart, IsRun, Fails}
 pub use Rattle.duct.specs.TreeView.{tree_view}
 pub use Rattle.duct.specs.declared.expression.Expression.{Expression}
-pub use Rattle.duct_tasks.specs.Turns.{EndsWith, InSuccession, IsIdle, IsLast, IsWhy, Keeps, StoppedIf, Turn, WhyAfter, gives, is_stopped, last_of, Advances, Began, Goes, InTurn, AreEnds, GoesOn, RanAll, failed_of, Attempts, FailsFor, FnReturnsAtPairMut, HadOrders, HasOrders, running_of}
-pub use Rattle.duct_tasks.specs.Until.{End, HasPassed, RunsAlike, HasNotEnded, IsStopped, LaunchStopped, MayRun, ReadsFirst, Stops, seen, IsSignalled, AreSignalled, last_read}
+pub use Rattle.duct_tasks.specs.Turns.{EndsWith, IsHalted, RanAs, SignalsTasks, Stops, StopsIf, TaskTries, Turned, WasHalted, WereSignalled, InSuccession, IsIdle, IsLast, IsWhy, Keeps, StoppedIf, Turn, WhyAfter, gives, is_stopped, last_of, Advances, Began, Goes, InTurn, AreEnds, GoesOn, RanAll, failed_of, Attempts, FailsFor, FnReturnsAtPairMut, HadOrders, HasOrders, running_of}
+pub use Rattle.duct_tasks.specs.Until.{End, HasPassed, RunsAlike, HasNotEnded, IsStopped, LaunchStopped, MayRun, ReadsFirst, WasStopped, seen, IsSignalled, AreSignalled, last_read}
 pub use Rattle.duct_tasks.specs.declared.keeper.Why.TheVariants.{GaveUp, Stopped}
 pub use Rattle.duct_tasks.specs.declared.many.Tasks.{Tasks}
 pub use Rattle.duct_tasks.specs.declared.task.Task.{Task}

@@ -1,12 +1,13 @@
 -- What was late, by the numbers of its journal.
 use Rattle.std.specs.declared.time.Duration.{Duration}
-use Rattle.std.proofs.Common.{◌≡◌, ◌∙◌, ap, refl, subst, sym, ℕ, List, ◌++◌, IfNone, IfSome, Some, None, map, option_map, option_to_list, Option}
-use Rattle.duct_tasks.proofs.Common.{PoolView, ShapeView, shape_view, Allows, RunningView, PoolGets, SystemViews, NumbersView, numbers_of, Bytes, Launched, Runs, StartKind, draining, drains_error, drains_output, Expression, HasNotEnded, IsStopped, LaunchStopped, MayRun, ReadsFirst, RunsAlike, Stops, seen}
-use Rattle.duct_system.specs.EntryView.{EntryView}
+use Rattle.std.proofs.Common.{◌≡◌, ◌∙◌, ap, refl, subst, sym, ℕ, pos, List, ◌++◌, IfNone, IfSome, Some, None, map, option_map, option_to_list, Option}
+use Rattle.duct_tasks.proofs.Common.{PoolView, ShapeView, shape_view, Allows, Refuses, RunningView, PoolGets, SystemViews, NumbersView, numbers_of, Bytes, Launched, Runs, added_between, draining, drains_error, drains_output, Expression, HasNotEnded, IsStopped, MayRun, ReadsFirst, RunsAlike, WasStopped, seen, tree_view}
 use Rattle.duct_system.specs.Started.{drains_in}
-use Rattle.duct_start.specs.TreeView.{TreeView}
-use Rattle.duct_run.proofs.Leaving.{takes_in}
+use Rattle.duct_start.specs.Left.{TakesIn, pool_view}
+use Rattle.duct_start.specs.ShapeOfTree.{shape_of_tree}
+use Rattle.duct_run.proofs.Leaving.{leaves_same, takes_in}
 use Rattle.duct_handle.proofs.Beginning.{are_numbers}
+use Rattle.duct_tasks.specs.Groups.{SignalsGroups, processes_of}
 use Rattle.duct_tasks.specs.declared.late.Late.{Late}
 
 -- what holds of what is there is kept by what follows from it
@@ -29,62 +30,80 @@ listed f g None (Some y) = refl
 listed f g (Some x) None = refl
 listed f g (Some x) (Some y) = refl
 
-module _ {S E C F D H : Type 0} (views : SystemViews S E C F D (Unit {0}) Bytes) (kind : StartKind)
-    (tree : TreeView E H) (added : List EntryView) (late : Late) where
+module _ {S E C F D H : Type 0} (views : SystemViews S E C F D (Unit {0}) Bytes)
+    (allows : Allows H) (refuses : Refuses H) (root : Expression E H) (late : Late) where
   -- what a start left might still run when it was seen, and was then stopped
-  pub is_late : (first waited running : RunningView C F D) → Runs views first kind tree added
-      → RunsAlike views first waited → HasNotEnded views waited → IsStopped views late waited
-      running
-      → Stops views late running kind tree added
-  is_late first waited running runs before unended stopped =
-      let polled : RunningView C F D = stopped.0 in
-      let same : seen views polled ≡ seen views first = stopped.1 ∙ before in
-      let shape = ap (λ (s : ShapeView × NumbersView). s.0) same ∙ runs.shape_is in
+  pub was_stopped : (before started after : S × PoolView C) (first waited running : RunningView C F D)
+      → Launched views allows draining root before.0 started.0 before.1 started.1
+      (Runs views first)
+      → RunsAlike views first waited → HasNotEnded views waited
+      → IsStopped views allows refuses late started waited after running
+      → WasStopped views allows refuses root before late after running
+  was_stopped before started after first waited running l alike unended stopped =
+      let tree = tree_view root in
+      let polled : RunningView C F D = stopped.polled in
+      let runs = l.makes in
+      let same : seen views polled ≡ seen views first = stopped.alike ∙ alike in
+      let shape : shape_view polled.shape ≡ shape_of_tree tree =
+      ap (λ (s : ShapeView × NumbersView). s.0) same ∙ runs.shape_is in
+      let shape_before : shape_view waited.shape ≡ shape_of_tree tree =
+      ap (λ (s : ShapeView × NumbersView). s.0) alike ∙ runs.shape_is in
       let may_run : MayRun views (shape_view polled.shape) (numbers_of views polled) =
-      subst (λ (s : ShapeView × NumbersView). MayRun views s.0 s.1) (sym stopped.1) unended in (
-        polled,
-        record {
-          shape_is = shape;
-          are_numbers = are_numbers views.child views.feed views.drain tree
-              (drains_output kind tree) (drains_error kind tree)
-              added first (numbers_of views polled) runs
-              (ap (λ (s : ShapeView × NumbersView). s.1) same);
-          may_run = subst (λ (s : ShapeView). MayRun views s (numbers_of views polled)) shape
-              may_run;
-          lapsed = stopped.2;
-        },
-        stopped.3,
-        stopped.4,
-      )
+      subst (λ (s : ShapeView × NumbersView). MayRun views s.0 s.1) (sym stopped.alike) unended in
+      record {
+        started = started;
+        between = stopped.between;
+        tries = stopped.tries;
+        kills = stopped.kills;
+        polled = polled;
+        launched = record {
+          asked = l.asked;
+          makes = record {
+            shape_is = shape;
+            are_numbers = are_numbers views.child views.feed views.drain tree
+                (drains_output draining tree) (drains_error draining tree)
+                (added_between views before.0 started.0) first (numbers_of views polled) runs
+                (ap (λ (s : ShapeView × NumbersView). s.1) same);
+            may_run = subst (λ (s : ShapeView). MayRun views s (numbers_of views polled)) shape
+                may_run;
+            lapsed = stopped.lapsed;
+          };
+          swept = l.swept;
+        };
+        signals = subst (λ (s : ShapeView). SignalsGroups views allows refuses (pos 15) s
+            (processes_of views polled) stopped.tries started stopped.between) shape_before
+            (subst (λ (ps : List ℕ). SignalsGroups views allows refuses (pos 15)
+            (shape_view waited.shape) ps stopped.tries started stopped.between)
+            (sym stopped.processes) stopped.signals);
+        signals_kill = subst (λ (s : ShapeView). SignalsGroups views allows refuses (pos 9) s
+            (processes_of views polled) stopped.kills stopped.between after) shape
+            stopped.ordered.signals;
+        killed = stopped.ordered.sent;
+        alike = stopped.kept;
+      }
 
   -- the first of the workers that were held is the first of the entries
-  pub first_drain : (running : RunningView C F D) → Stops views late running kind tree added
+  pub first_drain : (before after : S × PoolView C) (running : RunningView C F D)
+      → (stops : WasStopped views allows refuses root before late after running)
       → (workers : List D) → workers ≡ option_to_list running.output ++ option_to_list running.error
       → (shows : Duration → Type 0) (nanos : ℕ) (read : Option Bytes)
       → ReadsFirst views.drain_says shows nanos (map (λ d. (views.drain d).number) workers) read
-      → ReadsFirst views.drain_says shows nanos (drains_in added) read
-  first_drain running stops workers held shows nanos read first =
+      → ReadsFirst views.drain_says shows nanos
+      (drains_in (added_between views before.0 stops.started.0)) read
+  first_drain before after running stops workers held shows nanos read first =
       let numbers : NumbersView → List ℕ = λ n. option_to_list n.output ++ option_to_list n.error in
-      let same : map (λ d. (views.drain d).number) workers ≡ drains_in added =
+      let same : map (λ d. (views.drain d).number) workers
+      ≡ drains_in (added_between views before.0 stops.started.0) =
       ap (map (λ d. (views.drain d).number)) held ∙ sym (listed views.drain (λ d. d.number)
       running.output running.error)
-      ∙ ap (λ (s : ShapeView × NumbersView). numbers s.1) stops.2 ∙ stops.1.are_numbers.drains_are
-      in
+      ∙ ap (λ (s : ShapeView × NumbersView). numbers s.1) stops.alike
+      ∙ stops.launched.makes.are_numbers.drains_are in
       subst (λ (ns : List ℕ). ReadsFirst views.drain_says shows nanos ns read) same first
 
--- the pool was swept, and then it was given what was stopped
-pub launch_stopped : {S E C F D H : Type 0} (views : SystemViews S E C F D (Unit {0}) Bytes)
-    (allows : Allows H)
-    (root : Expression E H) (sys after : S) (pool swept left : PoolView C) (late : Late)
-    (running : RunningView C F D)
-    → Launched views allows draining root sys after pool swept (Stops views late running)
-    → PoolGets views running.children swept left
-    → LaunchStopped views allows root sys after pool left late
-launch_stopped views allows root sys after pool swept left late running l gets = record {
-  asked = l.asked;
-  polled = l.makes.0;
-  is_late = l.makes.1;
-  given = map views.child running.children;
-  killed = l.makes.3;
-  pool = takes_in views.may_answer views.child running.children pool swept left l.swept gets;
-}
+  -- then the pool was given what was stopped
+  pub takes_stopped : (running : RunningView C F D) (ended left : PoolView C)
+      → PoolGets views running.children ended left
+      → TakesIn views.may_answer (map views.child running.children) (pool_view views.child ended)
+      (pool_view views.child left)
+  takes_stopped running ended left gets = takes_in views.may_answer views.child running.children
+      ended ended left (leaves_same views.may_answer (pool_view views.child ended)) gets

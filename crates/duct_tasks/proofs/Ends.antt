@@ -1,6 +1,6 @@
 -- How all tasks ended, once none runs.
 use Rattle.std.proofs.Common.{◌≡◌, ◌+◌, ◌<◌, ◌≤◌, ◌⊎◌, refl, ap, sym, ◌∙◌, subst, inl, inr, arith, ℕ, suc, Bool, true, false, List, [], ◌∷◌, ◌++◌, Contains, length, map, sum_by, Ok, Err, Some}
-use Rattle.duct_tasks.proofs.Common.{append-nil, append_assoc, length-map, map-append, sum_by-cons, PoolView, counted, Error, Allows, Refuses, RunningView, SystemViews, Bytes, Expression, End, AreEnds, EndsWith, Goes, GoesOn, InTurn, RanAll, Turn, failed_of, Tasks, Task, Ended}
+use Rattle.duct_tasks.proofs.Common.{append-nil, append_assoc, length-map, map-append, sum_by-cons, PoolView, counted, Error, Allows, Refuses, RunningView, SystemViews, Bytes, Expression, End, AreEnds, EndsWith, Goes, GoesOn, InTurn, RanAll, Turn, Turned, failed_of, Tasks, Task, Ended}
 use Rattle.duct_tasks.specs.declared.many.AtFailure.{AtFailure}
 use Rattle.duct_tasks.specs.declared.many.AtFailure.TheVariants.{GoOn, Wait, Stop}
 
@@ -65,8 +65,7 @@ all_ended : {S E C F D : Type 0} (views : SystemViews S E C F D (Unit {0}) Bytes
     (ends : List End)
     (given : ℕ) (sys left : S)
     → InTurn (Turn views allows refuses sent) roots (map (λ e. Ended e) ends) given sys left
-    → InTurn (λ root end. EndsWith views allows refuses sent root (Some end)) roots ends given sys
-    left
+    → InTurn (EndsWith views allows refuses sent) roots ends given sys left
 all_ended views allows refuses sent roots [] given sys left turns = turns
 all_ended views allows refuses sent [] (end ∷ ends) given sys left turns = absurd turns
 all_ended views allows refuses sent (root ∷ roots) (end ∷ ends) given sys left turns = (
@@ -79,6 +78,19 @@ all_ended views allows refuses sent (root ∷ roots) (end ∷ ends) given sys le
       turns.3 turns.1 left turns.5,
 )
 
+-- the turns of no task
+none_turned : {S E C F D : Type 0} (views : SystemViews S E C F D (Unit {0}) Bytes) {H : Type 0}
+    (allows : Allows H) (refuses : Refuses H) (roots : List (Expression E H)) (sys : S)
+    → Turned views allows refuses (Turn views allows refuses) false roots [] 0 sys sys
+none_turned views allows refuses roots sys = record {
+  own = 0;
+  more = 0;
+  between = sys;
+  in_turn = (refl, refl);
+  stopped = (refl, refl);
+  given_is = refl;
+}
+
 module _ {S E C F D : Type 0} {views : SystemViews S E C F D (Unit {0}) Bytes} {H : Type 0}
     {allows : Allows H} {refuses : Refuses H} {tasks : List (Task (RunningView C F D))}
     {sent : Bool} {sys left : S} where
@@ -87,8 +99,9 @@ module _ {S E C F D : Type 0} {views : SystemViews S E C F D (Unit {0}) Bytes} {
       → Goes views allows refuses false sent roots [] tasks sys left had has → length tasks ≤ length
       roots
   few_started {roots} goes =
-      few_turns (Turn views allows refuses sent) roots tasks (0 + goes.given) sys left
-      (goes.turns sys 0 (refl, refl))
+      let turned = goes.turns sys 0 (none_turned views allows refuses roots sys) in
+      few_turns (Turn views allows refuses sent) roots tasks turned.own sys turned.between
+      turned.in_turn
 
   pub ran_all : (given : Tasks E H) (ends : List End) (failed : Bool) (pool kept : PoolView C)
       → Goes views allows refuses false sent given.all.now [] tasks sys left pool.given kept.given →
@@ -99,11 +112,11 @@ module _ {S E C F D : Type 0} {views : SystemViews S E C F D (Unit {0}) Bytes} {
       → RanAll views allows refuses given (sys, pool) ends (left, kept)
   ran_all given ends failed pool kept goes are fails_if over stops =
       let roots : List (Expression E H) = given.all.now in
-      let turns : InTurn (Turn views allows refuses sent) roots (map (λ e. Ended e) ends)
-      (0 + goes.given) sys left =
+      let turned = goes.turns sys 0 (none_turned views allows refuses roots sys) in
+      let turns : InTurn (Turn views allows refuses sent) roots (map (λ e. Ended e) ends) turned.own
+      sys turned.between =
       subst (λ (ts : List (Task (RunningView C F D))). InTurn (Turn views allows refuses sent) roots
-      ts (0 + goes.given) sys left) are
-      (goes.turns sys 0 (refl, refl)) in
+      ts turned.own sys turned.between) are turned.in_turn in
       let error : failed ≡ true → (e : Error) × Contains ends (Err e) =
       λ is. fails (RunningView C F D) ends
       (subst (λ (ts : List (Task (RunningView C F D))). 0 < sum_by failed_of ts) are
@@ -111,7 +124,15 @@ module _ {S E C F D : Type 0} {views : SystemViews S E C F D (Unit {0}) Bytes} {
       record {
         given = 0 + goes.given;
         sent = sent;
-        in_turn = all_ended views allows refuses sent roots ends (0 + goes.given) sys left turns;
+        turned = record {
+          own = turned.own;
+          more = turned.more;
+          between = turned.between;
+          in_turn = all_ended views allows refuses sent roots ends turned.own sys turned.between
+              turns;
+          stopped = turned.stopped;
+          given_is = turned.given_is;
+        };
         pool = subst (λ (n : ℕ). kept.given ≡ counted pool.given n) (omega arith) goes.counts;
         all = elim over [
           | inl all ↦ inl (omega (

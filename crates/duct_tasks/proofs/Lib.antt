@@ -4,6 +4,9 @@ pub mod EachAttempt
 pub mod Ending
 pub mod Ends
 pub mod Keeping
+pub mod Lining
+pub mod GroupLines
 pub mod Signalled
 pub mod Staying
+pub mod Trying
 pub mod Turning

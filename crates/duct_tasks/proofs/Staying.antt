@@ -1,11 +1,8 @@
 -- What polls leave as it is.
-use Rattle.std.proofs.Common.{refl, ◌∙◌, inl}
+use Rattle.std.proofs.Common.{refl, ◌∙◌}
 use Rattle.duct_system.specs.Child.{ChildView}
 use Rattle.duct_system.specs.Job.{JobView}
-use Rattle.duct_tasks.proofs.Common.{RunningView, SystemViews, Polled, ReturnsOutcome, Stays, StaysSame, Bytes, RunsAlike}
-use Rattle.duct_running.specs.Allowed.{StoresAllowed}
-use Rattle.duct_running.specs.Answered.{ReturnsConclusion}
-use Rattle.duct_handle.proofs.Finishing.{was_concluded}
+use Rattle.duct_tasks.proofs.Common.{RunningView, SystemViews, Stays, StaysSame, Bytes, RunsAlike}
 
 module _ {C F D V W : Type 0} {child : C → ChildView} {feed : F → JobView V} {drain : D → JobView W}
   where
@@ -24,15 +21,3 @@ module _ {S E C F D : Type 0} (views : SystemViews S E C F D (Unit {0}) Bytes) w
   pub alike : (before after : RunningView C F D) → StaysSame views before after → RunsAlike views
       before after
   alike before after stays = λ i. (stays.shape_is i, stays.numbers_are i)
-
-  -- what was polled, and returned an outcome
-  pub concluded : (running : RunningView C F D) (polled : Polled) → ReturnsOutcome views running
-      polled
-      → ∥ StoresAllowed views running ∥₁ → ReturnsConclusion views running polled
-  concluded running polled outcome allowed =
-      inl (
-        outcome.0,
-        was_concluded views running outcome.0
-            (record { concludes = outcome.1; allowed = allowed }),
-        outcome.2,
-      )

@@ -1,10 +1,11 @@
 -- Turns of tasks, of which one is added, or has gone on, or those that run are sent signal 15.
 use Rattle.std.proofs.Common.{◌≡◌, ◌+◌, ◌<◌, refl, ap, sym, ◌∙◌, subst, inl, inr, arith, ℕ, zero, suc, Bool, true, false, if◌then◌else◌, List, [], ◌∷◌, ◌++◌, length, Ok, Err, Some, None, get_or, set, Option}
-use Rattle.duct_tasks.proofs.Common.{AllZip, length-map, PoolView, counted, Error, ShapeView, Allows, Refuses, RunningView, SystemViews, NumbersView, numbers_of, Bytes, LaunchRefused, Launched, Runs, added_between, draining, drains_error, drains_output, tree_view, Expression, Advances, Began, EndsWith, Goes, InTurn, IsLast, Turn, gives, End, RunsAlike, Task, Running, Ended}
+use Rattle.duct_tasks.proofs.Common.{AllZip, length-map, PoolView, counted, Error, ShapeView, Allows, Refuses, RunningView, SystemViews, NumbersView, numbers_of, Bytes, LaunchRefused, Launched, Runs, added_between, draining, drains_error, drains_output, tree_view, Expression, Advances, Began, EndsWith, Goes, InTurn, IsLast, Stops, Turn, Turned, gives, End, RunsAlike, Task, Running, Ended}
 use Rattle.duct_base.proofs.Sieving.{counted_more}
 use Rattle.duct_system.specs.Started.{children_in}
 use Rattle.duct_handle.proofs.Beginning.{are_numbers}
 use Rattle.duct_handle.specs.Started.{AreNumbers}
+use Rattle.duct_tasks.proofs.GroupLines.{stops_given}
 use Rattle.duct_tasks.proofs.Signalled.{no_orders}
 
 module _ {S T A : Type 0} (IsTurn : T → A → ℕ → S → S → Type 0) where
@@ -79,16 +80,16 @@ module _ {S E C F D : Type 0} (views : SystemViews S E C F D (Unit {0}) Bytes) {
         (sym (ap (λ (s : ShapeView × NumbersView). s.1) alike)) began.are_numbers;
   }
 
-  -- what has ended or was killed, with its children given to a pool unless it has an output
-  pub ends_with : (sent : Bool) (root : Expression E H) (last : Option End) (sys left : S)
+  -- what has ended, with its children given to a pool unless it has an output
+  pub ends_with : (sent : Bool) (root : Expression E H) (end : End) (sys left : S)
       (waited : RunningView C F D)
       (own more : ℕ) → own ≡ 0 → Began views allows refuses root sys left waited → IsLast views sent
-      last waited
-      → more ≡ (if gives last then length (numbers_of views waited).children else 0)
-      → EndsWith views allows refuses sent root last (own + more) sys left
-  ends_with sent root (Some (Ok output)) sys left waited own more none began ends count =
+      end waited
+      → more ≡ (if gives (Some end) then length (numbers_of views waited).children else 0)
+      → EndsWith views allows refuses sent root end (own + more) sys left
+  ends_with sent root (Ok output) sys left waited own more none began ends count =
       ((waited, began, ends), omega (arith, none, count))
-  ends_with sent root (Some (Err e)) sys left waited own more none began ends count = (
+  ends_with sent root (Err e) sys left waited own more none began ends count = (
     inl (waited, began, ends),
     omega (
       arith,
@@ -98,22 +99,12 @@ module _ {S E C F D : Type 0} (views : SystemViews S E C F D (Unit {0}) Bytes) {
           (λ (numbers : List ℕ). length numbers) began.are_numbers.children_are,
     ),
   )
-  ends_with sent root None sys left waited own more none began ends count = (
-    (waited, began, ends),
-    omega (
-      arith,
-      none,
-      count,
-      ap (λ (numbers : List ℕ). length numbers)
-          began.are_numbers.children_are,
-    ),
-  )
 
   -- what had ended before signal 15 was sent
   had : (from to : Bool) → (from ≡ true → to ≡ true) → (root : Expression E H) (end : End)
       (given : ℕ) (sys left : S)
-      → EndsWith views allows refuses from root (Some end) given sys left
-      → EndsWith views allows refuses to root (Some end) given sys left
+      → EndsWith views allows refuses from root end given sys left
+      → EndsWith views allows refuses to root end given sys left
   had false false grows root end given sys left ends = ends
   had true true grows root end given sys left ends = ends
   had true false grows root end given sys left ends = absurd
@@ -137,14 +128,14 @@ module _ {S E C F D : Type 0} (views : SystemViews S E C F D (Unit {0}) Bytes) {
         (arith, goes.2, turn.2),
   )
   turn_on from to grows (Running before) (Ended end) more goes root own sys left turn =
-      ends_with to root (Some end) sys left goes.0 own more turn.2
+      ends_with to root end sys left goes.0 own more turn.2
       (began_on root sys left before goes.0 goes.1 turn.0)
       (goes.2 turn.1) goes.3
   turn_on from to grows (Ended end) after more goes root own sys left turn =
       let none : own + more ≡ own = omega (arith, goes.1) in
       subst (λ (a : Task (RunningView C F D)). Turn views allows refuses to root a (own + more) sys
       left) (sym goes.0)
-      (subst (λ (n : ℕ). EndsWith views allows refuses to root (Some end) n sys left) (sym none)
+      (subst (λ (n : ℕ). EndsWith views allows refuses to root end n sys left) (sym none)
       (had from to grows root end own sys left turn))
 
   -- a task that was started
@@ -173,7 +164,7 @@ module _ {S E C F D : Type 0} (views : SystemViews S E C F D (Unit {0}) Bytes) {
   -- one that was not
   pub refused : (root : Expression E H) (sys left : S) (pool kept : PoolView C) (e : Error)
       → LaunchRefused views allows refuses draining root sys left pool kept e
-      → (given : ℕ) × EndsWith views allows refuses false root (Some (Err e)) given sys left ×
+      → (given : ℕ) × EndsWith views allows refuses false root (Err e) given sys left ×
       (kept.given ≡ counted pool.given given)
   refused root sys left pool kept e l = (
     length (children_in (added_between views sys left)),
@@ -224,7 +215,8 @@ module _ {S E C F D : Type 0} {views : SystemViews S E C F D (Unit {0}) Bytes} {
         turns = λ start so_far turns.
             let sum : so_far + first.given + next.given ≡ so_far + (first.given + next.given) =
             omega arith in
-            subst (λ (n : ℕ). InTurn (Turn views allows refuses to) roots three n start left) sum
+            subst (λ (n : ℕ). Turned views allows refuses (Turn views allows refuses) to roots three
+            n start left) sum
             (next.turns start (so_far + first.given) (first.turns start so_far turns));
       }
 
@@ -237,37 +229,69 @@ module _ {S E C F D : Type 0} {views : SystemViews S E C F D (Unit {0}) Bytes} {
   goes_at sent at tasks before after sys is some goes = record {
     given = goes.0;
     counts = goes.2;
-    turns = λ start so_far turns. one_on (Turn views allows refuses sent) at roots tasks before
-        after so_far goes.0 start sys is some
-        (turn_on views allows refuses sent sent (λ it. it) before after goes.0 goes.1) turns;
+    turns = λ start so_far turned. record {
+      own = turned.own + goes.0;
+      more = turned.more;
+      between = turned.between;
+      in_turn = one_on (Turn views allows refuses sent) at roots tasks before after turned.own
+          goes.0 start turned.between is some
+          (turn_on views allows refuses sent sent (λ it. it) before after goes.0 goes.1)
+          turned.in_turn;
+      stopped = turned.stopped;
+      given_is = omega (arith, turned.given_is);
+    };
   }
 
   -- a task had its turn
-  pub goes_next : (sent : Bool) (tasks : List (Task (RunningView C F D))) (root : Expression E H)
+  pub goes_next : (tasks : List (Task (RunningView C F D))) (root : Expression E H)
       (made : Task (RunningView C F D))
       {sys left : S} {had has : ℕ} → root ≡ get_or roots (length tasks) root → length tasks < length
       roots
-      → (own : ℕ) × Turn views allows refuses sent root made own sys left × (has ≡ counted had own)
-      → Goes views allows refuses sent sent roots tasks (tasks ++ made ∷ []) sys left had has
-  goes_next sent tasks root made {sys} {left} is some turn = record {
+      → (own : ℕ) × Turn views allows refuses false root made own sys left
+      × (has ≡ counted had own)
+      → Goes views allows refuses false false roots tasks (tasks ++ made ∷ []) sys left had has
+  goes_next tasks root made {sys} {left} is some turn = record {
     given = turn.0;
     counts = turn.2;
-    turns = λ start so_far turns. one_more (Turn views allows refuses sent) roots tasks root made
-        so_far turn.0 start sys left is some turns turn.1;
+    turns = λ start so_far turned. record {
+      own = turned.own + turn.0;
+      more = 0;
+      between = left;
+      in_turn = one_more (Turn views allows refuses false) roots tasks root made turned.own turn.0
+          start sys left is some (subst (λ (s : S). InTurn (Turn views allows refuses false) roots
+          tasks turned.own start s) (sym turned.stopped.0) turned.in_turn) turn.1;
+      stopped = (refl, refl);
+      given_is = omega (arith, turned.given_is, turned.stopped.1);
+    };
   }
 
   -- signal 15 was sent to those that run
-  pub goes_sent : (befores afters : List (Task (RunningView C F D))) (sys : S) (given : ℕ)
+  pub goes_sent : (befores afters : List (Task (RunningView C F D))) (sys left : S)
+      (pool kept : PoolView C)
       → AllZip (λ before after. Advances views false true before after 0) befores afters
-      → Goes views allows refuses false true roots befores afters sys sys given given
-  goes_sent befores afters sys given all = record {
-    given = 0;
-    counts = refl;
-    turns = λ start so_far turns.
-        let same : so_far ≡ so_far + 0 = omega arith in
-        subst (λ (n : ℕ). InTurn (Turn views allows refuses true) roots afters n start sys) same
-        (all_sent views allows refuses roots befores afters so_far start sys all turns);
-  }
+      → Stops views allows refuses (sys, pool) (left, kept)
+      → Goes views allows refuses false true roots befores afters sys left pool.given kept.given
+  goes_sent befores afters sys left pool kept all stops =
+      let lines = stops_given views allows refuses stops.0 (sys, pool) (left, kept) stops.1 in
+      record {
+        given = lines.0;
+        counts = lines.1;
+        turns = λ start so_far turned. record {
+          own = turned.own;
+          more = lines.0;
+          between = turned.between;
+          in_turn = all_sent views allows refuses roots befores afters turned.own start
+              turned.between all turned.in_turn;
+          stopped = record {
+            first = pool;
+            last = kept;
+            stops = subst (λ (s : S). Stops views allows refuses (s, pool) (left, kept))
+                turned.stopped.0 stops;
+            counts = lines.1;
+          };
+          given_is = omega (arith, turned.given_is, turned.stopped.1);
+        };
+      }
 
   -- nothing was done
   pub goes_nowhere : (sent : Bool) (tasks : List (Task (RunningView C F D))) (sys : S) (given : ℕ)
@@ -275,8 +299,8 @@ module _ {S E C F D : Type 0} {views : SystemViews S E C F D (Unit {0}) Bytes} {
   goes_nowhere sent tasks sys given = record {
     given = 0;
     counts = refl;
-    turns = λ start so_far turns.
+    turns = λ start so_far turned.
         let same : so_far ≡ so_far + 0 = omega arith in
-        subst (λ (n : ℕ). InTurn (Turn views allows refuses sent) roots tasks n start sys) same
-        turns;
+        subst (λ (n : ℕ). Turned views allows refuses (Turn views allows refuses) sent roots tasks n
+        start sys) same turned;
   }

@@ -1,2 +1,5 @@
+pub mod Groups
+pub mod Pauses
 pub mod Turns
 pub mod Until
+pub mod Streams

@@ -1,6 +1,7 @@
 -- What an expression that runs or is read until a moment of a clock returns, and what it leaves.
-use Rattle.std.specs.Prelude.{ℕ, ◌<◌, ◌≤◌, ◌⊎◌, Ok, Err, None, pos, Bool, true, false, List, [], ◌∷◌, ◌≡◌, All, map, is_some, IfNone, IfSome, ◌+◌, min, string_bytes, IsUtf8, Option, Result, String}
+use Rattle.std.specs.Prelude.{ℕ, ◌<◌, ◌≤◌, ◌⊎◌, Ok, Err, None, Some, pos, Bool, true, false, List, [], ◌∷◌, ◌≡◌, All, map, is_some, IfNone, IfSome, ◌+◌, min, string_bytes, IsUtf8, Option, Result, String}
 use Rattle.std.specs.Duration.{as_nanos, max_nanos}
+use Rattle.std.specs.List.{AllZip}
 use Rattle.std.specs.declared.time.Duration.{Duration}
 use Rattle.std.specs.declared.alloc.Global.{Global}
 use Rattle.std.specs.declared.sync.Arc.{Arc}
@@ -21,16 +22,13 @@ use Rattle.duct_status.specs.ShapeView.{ShapeView, shape_view}
 use Rattle.duct_start.specs.Running.{RunningView}
 use Rattle.duct_start.specs.Chain.{Allows, Refuses}
 use Rattle.duct_start.specs.Left.{TakesIn, pool_view}
-use Rattle.duct_start.specs.Plan.{plan_of}
 use Rattle.duct_start.specs.ShapeOfTree.{shape_of_tree}
-use Rattle.duct_start.specs.Start.{StartSucceeds}
 use Rattle.duct_start.specs.TreeView.{TreeView, around, stdout_capture}
 use Rattle.duct_system.specs.SystemViews.{SystemViews}
 use Rattle.duct_running.specs.Allowed.{OneIsRunning, OneRuns, StoresAllowed}
 use Rattle.duct_running.specs.Answered.{IsConcludedPoll}
 use Rattle.duct_running.specs.NumbersView.{NumbersView, numbers_of}
 use Rattle.duct_running.specs.Stored.{Bytes}
-use Rattle.duct_running.specs.Ordered.{ChildrenOrdered, IsOrdered}
 use Rattle.duct_running.specs.Polled.{ReturnsOutcome, PolledOnce, StaysSame}
 use Rattle.duct_handle.specs.Started.{AreNumbers}
 use Rattle.duct_handle.specs.Waited.{at_end}
@@ -38,6 +36,7 @@ use Rattle.duct_handle.specs.ReadsText.{trimmed}
 use Rattle.duct.specs.Launched.{MadeBy, Returns, Runs, StartKind, added_between, draining, drains_error, drains_output, Fails, Launched, RunFailed}
 use Rattle.duct.specs.TreeView.{tree_view}
 use Rattle.duct.specs.declared.expression.Expression.{Expression}
+use Rattle.duct_tasks.specs.Groups.{IsSent, OrdersAll, SignalsGroups, Tries, processes_of}
 use Rattle.duct_tasks.specs.declared.late.Late.{Late}
 use Rattle.duct_tasks.specs.declared.late.Until.{Until}
 use Rattle.duct_tasks.specs.declared.late.Until.TheVariants as until
@@ -67,6 +66,13 @@ module _ (may : ℕ → Order → Bool → Obeyed → Type 0) where
       ⊎ (may child.number (Signal (pos 15)) false (Err (record { kind = OutOfMemory }))
       × (child.orders ≡ []))
       ⊎ ((is_some child.ending ≡ true) × (child.orders ≡ []))
+
+  -- the same of a command whose group was tried like this: it has no order if that was sent the
+  -- signal
+  abbrev pub IsSignalledBy : Option Bool → ChildView → Type 0
+  IsSignalledBy None child = IsSignalled child
+  IsSignalledBy (Some false) child = IsSignalled child
+  IsSignalledBy (Some true) child = child.orders ≡ []
 
 -- it ended in time, and this holds of what it returned; or it was late
 abbrev pub IfDone : {T L : Type 0} → Until T L → (T → Type 0) → Type 0
@@ -124,29 +130,24 @@ module _ {S E C F D : Type 0} (views : SystemViews S E C F D (Unit {0}) Bytes) w
     pub none : IfNone ended (StoresNoEnd running)
     pub allowed : ∥ StoresAllowed views running ∥₁
 
-  -- the children of what runs were sent signal 15 alone
-  abbrev pub AreSignalled : RunningView C F D → Type 0
-  AreSignalled running = All (IsSignalled views.may_obey) (map views.child running.children)
+  -- the children of what runs were sent signal 15 alone, or their groups were
+  abbrev pub AreSignalled : Tries → RunningView C F D → Type 0
+  AreSignalled tries running =
+      AllZip (IsSignalledBy views.may_obey) tries (map views.child running.children)
 
   -- what runs was polled, and this is what the last of these polls left
   abbrev pub WasPolled : RunningView C F D → RunningView C F D → Type 0
   WasPolled first after =
       (before : RunningView C F D) × StaysSame views first before
-      × (AreSignalled first → AreSignalled before) × PolledOnce views before after
+      × ((tries : Tries) → AreSignalled tries first → AreSignalled tries before)
+      × PolledOnce views before after
 
-  -- its children were sent signal 15 alone, and a poll after that was the last: this is how it
-  -- ended, if it had
-  abbrev pub HasLapsed : Option End → RunningView C F D → Type 0
-  HasLapsed ended running =
-      (signalled : RunningView C F D) × AreSignalled signalled
+  -- its children were sent signal 15 alone, or their groups were, and a poll after that was the
+  -- last: this is how it ended, if it had
+  abbrev pub HasLapsed : Tries → Option End → RunningView C F D → Type 0
+  HasLapsed tries ended running =
+      (signalled : RunningView C F D) × AreSignalled tries signalled
       × PolledOnce views signalled running × StoresEnd ended running
-
-  -- what ran was sent signal 15 and polled, and then each of its children that had not ended was
-  -- killed, with this as the result
-  abbrev pub IsStopped : Late → RunningView C F D → RunningView C F D → Type 0
-  IsStopped late running killed =
-      (polled : RunningView C F D) × RunsAlike running polled × HasLapsed late.ended polled
-      × RunsAlike polled killed × ChildrenOrdered views Kill polled late.killed killed
 
   -- what was launched had ended when it was polled for the first time
   abbrev pub EndedAtOnce : {H : Type 0} → MadeBy E H
@@ -164,33 +165,62 @@ module _ {S E C F D : Type 0} (views : SystemViews S E C F D (Unit {0}) Bytes) w
 
   -- these are the children and workers of the entries, as the last poll left them; one of them
   -- might still run when the moment was seen; they were sent signal 15 after that and before the
-  -- last poll; and how it ended is the outcome of what they store
-  pub record IsLate {H : Type 0} (late : Late) (kind : StartKind) (tree : TreeView E H)
-      (added : List EntryView) (polled : RunningView C F D) : Type 0 where
+  -- last poll, or their groups were; and how it ended is the outcome of what they store
+  pub record IsLate {H : Type 0} (late : Late) (tries : Tries) (polled : RunningView C F D)
+      (kind : StartKind) (tree : TreeView E H) (added : List EntryView) : Type 0 where
     pub shape_is : shape_view polled.shape ≡ shape_of_tree tree
     pub are_numbers : AreNumbers (drains_output kind tree) (drains_error kind tree) added
         (numbers_of views polled)
     pub may_run : MayRun (shape_of_tree tree) (numbers_of views polled)
-    pub lapsed : HasLapsed late.ended polled
+    pub lapsed : HasLapsed tries late.ended polled
 
-  -- this runs what was late, after each of its children that had not ended was killed
-  abbrev pub Stops : {H : Type 0} → Late → RunningView C F D → MadeBy E H
-  Stops late running kind tree added =
-      (polled : RunningView C F D) × IsLate late kind tree added polled × RunsAlike polled running
-      × ChildrenOrdered views Kill polled late.killed running
+  module _ {H : Type 0} (allows : Allows H) (refuses : Refuses H) where
+    -- what ran was sent signal 15 and polled, and then it was killed, with this as the result; the
+    -- groups of the commands that lead one were tried both times
+    pub record IsStopped (late : Late) (before : S × PoolView C) (running : RunningView C F D)
+        (after : S × PoolView C) (killed : RunningView C F D) : Type 0 where
+      pub tries : Tries
+      pub kills : Tries
+      pub between : S × PoolView C
+      pub polled : RunningView C F D
+      pub signals : SignalsGroups views allows refuses (pos 15) (shape_view running.shape)
+          (processes_of views running) tries before between
+      pub alike : RunsAlike running polled
+      pub processes : processes_of views polled ≡ processes_of views running
+      pub lapsed : HasLapsed tries late.ended polled
+      pub ordered : OrdersAll views Kill allows refuses kills between polled late.killed after
+          killed
+      pub kept : RunsAlike polled killed
 
-  -- a start that succeeded and was late: its requests are its plan; each of its children that had
-  -- not ended at the last poll was killed once, with the result, and the pool was given all
-  pub record LaunchStopped {H : Type 0} (allows : Allows H) (root : Expression E H) (sys after : S)
-      (before left : PoolView C) (late : Late) : Type 0 where
-    pub asked : StartSucceeds allows views.number_of (tree_view root) (plan_of (tree_view root))
-        (views.journal sys) (views.journal after)
-    pub polled : RunningView C F D
-    pub is_late : IsLate late draining (tree_view root) (added_between views sys after) polled
-    pub given : List ChildView
-    pub killed : IsOrdered views.may_obey Kill (map views.child polled.children) late.killed given
-    pub pool : TakesIn views.may_answer given (pool_view views.child before)
-        (pool_view views.child left)
+    -- a start that succeeded and was late: its requests are its plan. After them, the groups of the
+    -- commands that lead one were sent signal 15, and after the last poll signal 9; and this runs
+    -- it then: each child that had not ended at that poll was killed once, with the result, unless
+    -- its group was
+    pub record WasStopped (root : Expression E H) (before : S × PoolView C) (late : Late)
+        (after : S × PoolView C) (running : RunningView C F D) : Type 0 where
+      pub started : S × PoolView C
+      pub between : S × PoolView C
+      pub tries : Tries
+      pub kills : Tries
+      pub polled : RunningView C F D
+      pub launched : Launched views allows draining root before.0 started.0 before.1 started.1
+          (IsLate late tries polled)
+      pub signals : SignalsGroups views allows refuses (pos 15) (shape_of_tree (tree_view root))
+          (processes_of views polled) tries started between
+      pub signals_kill : SignalsGroups views allows refuses (pos 9)
+          (shape_of_tree (tree_view root)) (processes_of views polled) kills between after
+      pub killed : IsSent views.may_obey Kill kills (map views.child polled.children) late.killed
+          (map views.child running.children)
+      pub alike : RunsAlike polled running
+
+    -- the same, and then the pool was given all its children
+    pub record LaunchStopped (root : Expression E H) (before after : S × PoolView C) (late : Late)
+        : Type 0 where
+      pub running : RunningView C F D
+      pub ended : PoolView C
+      pub stopped : WasStopped root before late (after.0, ended) running
+      pub pool : TakesIn views.may_answer (map views.child running.children)
+          (pool_view views.child ended) (pool_view views.child after.1)
 
 -- the last moment of a read, in nanoseconds: a second after the grace, or the greatest moment
 abbrev pub last_read : ℕ → ℕ → ℕ
@@ -229,7 +259,7 @@ module _ {S E C F D : Type 0} (views : SystemViews S E C F D (Unit {0}) Bytes) {
   IsRunUntil before (Ok (until.Done output)) after = Launched views allows draining root before.0
       after.0 before.1 after.1 (ReturnsInTime views shows moment output)
   IsRunUntil before (Ok (until.Late late)) after = IsStoppedAt grace shows moment late
-      × LaunchStopped views allows root before.0 after.0 before.1 after.1 late
+      × LaunchStopped views allows refuses root before after late
   IsRunUntil before (Err e) after = RunFailed views allows refuses draining root before.0 after.0
       before.1 after.1 (Fails views) e
 
@@ -247,9 +277,9 @@ module _ {S E C F D : Type 0} (views : SystemViews S E C F D (Unit {0}) Bytes) {
   pub record ReadStopped (before after : S × PoolView C) (late : LateRead) : Type 0 where
     pub captured : Expression E H
     pub is_captured : IsCaptured root captured
-    pub stopped : LaunchStopped views allows captured before.0 after.0 before.1 after.1 late.late
+    pub stopped : LaunchStopped views allows refuses captured before after late.late
     pub read : ReadsFirst views.drain_says shows (last_read moment (as_nanos grace))
-        (drains_in (added_between views before.0 after.0)) late.read
+        (drains_in (added_between views before.0 stopped.stopped.started.0)) late.read
 
   -- there was no memory for the capture, and nothing was started; or the captured expression failed
   -- to start or to run; or it ran, and the bytes without the line ends at their end are not UTF-8

@@ -1,7 +1,7 @@
 //! The tasks that were started, of which only so many run.
 ghost use Rattle.std.specs.Prelude.{ℕ, ◌≡◌, ◌+◌, ◌<◌, ◌≤◌, ◌⊎◌, true, false, [], length, sum_by, vec_capacity, IfOk};
 ghost use Rattle.std.specs.List.{AllZip};
-ghost use Rattle.duct_tasks.specs.Turns.{Advances, AreEnds, Goes, GoesOn, IsHeeded, failed_of, running_of};
+ghost use Rattle.duct_tasks.specs.Turns.{Advances, AreEnds, Goes, GoesOn, IsHeeded, Stops, failed_of, running_of};
 ghost use Rattle.duct_tasks.specs.declared.many.AtFailure.TheVariants.{Stop};
 
 use crate::many::{AtFailure, Progress, Tasks};
@@ -13,7 +13,7 @@ use duct_base::system::{Output, System};
 use duct_running::running::Running;
 use duct_system::views::Viewed;
 use std::alloc::{AllocError, Global};
-use std::sync::Arc;
+use std::sync::{Arc, Wait};
 
 /// Tasks of which those at the front were started. No more of these run than the limit.
 pub(crate) struct Crew<'t, E, H, R> {
@@ -28,6 +28,7 @@ pub(crate) struct Crew<'t, E, H, R> {
     pub ghost fails: { failed ≡ true → 0 < sum_by failed_of started.items },
     pub ghost stops: { stopped ≡ true → (failed ≡ true) × (tasks.at_failure ≡ Stop) },
     pub ghost room: { length tasks.all.now ≤ vec_capacity started },
+    pub ghost within: { length started.items ≤ length tasks.all.now },
 }
 
 impl<'t, H: Hook, S: System> Crew<'t, S::End, H, Running<S>> {
@@ -137,28 +138,30 @@ impl<'t, H: Hook, S: System> Crew<'t, S::End, H, Running<S>> {
     }
 
     // Sends signal 15 to the tasks that run.
-    fn terminate(&mut self)
+    fn terminate(&mut self, rt: &impl Wait, sys: &mut S, pool: &mut Pool<S::Child>)
         ensures tasks { self.new.tasks ≡ self.old.tasks }
         ensures failed { self.new.failed ≡ self.old.failed }
         ensures stopped { self.new.stopped ≡ self.old.stopped }
         ensures sent { AllZip (λ before after. Advances ⟦<S as Viewed>⟧.views false true before
             after 0) self.old.started.items self.new.started.items }
+        ensures signals { Stops ⟦<S as Viewed>⟧.views H.allows H.refuses (sys.old, pool.old)
+            (sys.new, pool.new) }
     {
         for at in 0..self.started.len() {
-            terminate(&mut self.started[at]);
+            terminate(rt, sys, pool, &self.tasks.all[at], &mut self.started[at]);
         }
     }
 
     /// Sends signal 15 to the tasks that run, once, where one has failed and that is to stop them.
-    pub fn stop_after_failure(&mut self)
+    pub fn stop_after_failure(&mut self, rt: &impl Wait, sys: &mut S, pool: &mut Pool<S::Child>)
         ensures tasks { self.new.tasks ≡ self.old.tasks }
         ensures stops { IsHeeded self.new.tasks.at_failure self.new.failed self.new.stopped }
-        ensures turns { (sys : S) (given : ℕ) → Goes ⟦<S as Viewed>⟧.views H.allows H.refuses
-            self.old.stopped self.new.stopped self.old.tasks.all.now self.old.started.items
-            self.new.started.items sys sys given given }
+        ensures turns { Goes ⟦<S as Viewed>⟧.views H.allows H.refuses self.old.stopped
+            self.new.stopped self.old.tasks.all.now self.old.started.items self.new.started.items
+            sys.old sys.new pool.old.given pool.new.given }
     {
         if self.failed && !self.stopped && matches!(self.tasks.at_failure, AtFailure::Stop) {
-            self.terminate();
+            self.terminate(rt, sys, pool);
             self.stopped = true;
         }
     }

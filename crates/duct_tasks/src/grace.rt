@@ -1,17 +1,23 @@
 //! How what runs is ended: by signal 15, a grace, and only then a kill. The types say how far that
 //! has come, so that no other order is possible.
-ghost use Rattle.std.specs.Prelude.{◌≡◌, true, false, IfNone, IfSome, Err};
+ghost use Rattle.std.specs.Prelude.{◌≡◌, true, false, pos, IfNone, IfSome, Err};
 ghost use Rattle.std.specs.Duration.{as_nanos};
 ghost use Rattle.duct_system.specs.declared.error.Error.TheVariants as error;
 ghost use Rattle.duct_system.specs.declared.system.Order.TheVariants.{Kill};
-ghost use Rattle.duct_running.specs.Ordered.{ChildrenOrdered};
+ghost use Rattle.duct_status.specs.ShapeView.{shape_view};
 ghost use Rattle.duct_handle.specs.Waited.{at_end};
+ghost use Rattle.duct_tasks.specs.Groups.{OrdersAll, SignalsGroups, Tries, processes_of};
 ghost use Rattle.duct_tasks.specs.Until.{AreSignalled, HasLapsed, HasReached, RunsAlike};
 ghost use Rattle.duct_tasks.specs.Turns.{HasOrders};
 
-use crate::watch::{ask, is_over, kill, watch};
+use crate::group::{kill_groups, order_all};
+use crate::late::TERMINATE;
+use crate::watch::{is_over, watch};
+use duct::Expression;
 use duct_base::error::Error;
-use duct_base::system::{Clock, Output, System};
+use duct_base::pool::Pool;
+use duct_base::spec::Hook;
+use duct_base::system::{Clock, Order, Output, System};
 use duct_running::running::Running;
 use duct_system::views::Viewed;
 use std::sync::{Arc, Wait};
@@ -28,15 +34,26 @@ pub(crate) struct Lapsed<S: System> {
 }
 
 impl<S: System> Asked<S> {
-    /// Sends signal 15 to each command that is not known to have ended. None was given an order
-    /// before.
-    pub(crate) fn new(running: Running<S>) -> Self
+    /// Sends signal 15 to what this expression runs, as `order_all` gives an order. None was given
+    /// one before. A command that can't be sent it runs on as before.
+    pub(crate) fn new<H: Hook>(
+        rt: &impl Wait,
+        sys: &mut S,
+        pool: &mut Pool<S::Child>,
+        like: &Expression<S::End, H>,
+        running: Running<S>,
+    ) -> Self
         requires { HasOrders ⟦<S as Viewed>⟧.views false running }
         ensures alike { RunsAlike ⟦<S as Viewed>⟧.views running result.running }
-        ensures signalled { AreSignalled ⟦<S as Viewed>⟧.views result.running }
+        ensures processes { processes_of ⟦<S as Viewed>⟧.views result.running
+            ≡ processes_of ⟦<S as Viewed>⟧.views running }
+        ensures signalled { (tries : Tries) × SignalsGroups ⟦<S as Viewed>⟧.views H.allows
+            H.refuses (pos 15) (shape_view running.shape)
+            (processes_of ⟦<S as Viewed>⟧.views running) tries (sys.old, pool.old)
+            (sys.new, pool.new) × AreSignalled ⟦<S as Viewed>⟧.views tries result.running }
     {
         let mut running = running;
-        ask(&mut running);
+        let _ = order_all(rt, sys, pool, like, Order::Signal(TERMINATE), &mut running);
         Asked { running }
     }
 
@@ -49,9 +66,11 @@ impl<S: System> Asked<S> {
         last: Duration,
         is_patient: bool,
     ) -> (Option<Result<Arc<Output>, Error>>, Lapsed<S>)
-        requires { AreSignalled ⟦<S as Viewed>⟧.views self.running }
         ensures alike { RunsAlike ⟦<S as Viewed>⟧.views self.running result.1.running }
-        ensures lapsed { HasLapsed ⟦<S as Viewed>⟧.views result.0 result.1.running }
+        ensures processes { processes_of ⟦<S as Viewed>⟧.views result.1.running
+            ≡ processes_of ⟦<S as Viewed>⟧.views self.running }
+        ensures lapsed { (tries : Tries) → AreSignalled ⟦<S as Viewed>⟧.views tries self.running
+            → HasLapsed ⟦<S as Viewed>⟧.views tries result.0 result.1.running }
         ensures late { IfNone result.0 (HasReached (C.may_show clock.now) (as_nanos last)) }
         ensures patient { is_patient ≡ true → IfSome result.0 (λ end.
             at_end end ≡ Err error.Memory → HasReached (C.may_show clock.now) (as_nanos last)) }
@@ -66,13 +85,36 @@ impl<S: System> Asked<S> {
 }
 
 impl<S: System> Lapsed<S> {
-    /// Kills each command that is still not known to have ended, once and from right to left.
-    pub(crate) fn kill(&mut self) -> Result<(), Error>
+    /// Kills what this expression still runs, as `order_all` gives an order.
+    pub(crate) fn kill<H: Hook>(
+        &mut self,
+        rt: &impl Wait,
+        sys: &mut S,
+        pool: &mut Pool<S::Child>,
+        like: &Expression<S::End, H>,
+    ) -> Result<(), Error>
         ensures alike { RunsAlike ⟦<S as Viewed>⟧.views self.old.running self.new.running }
-        ensures ordered { ChildrenOrdered ⟦<S as Viewed>⟧.views Kill self.old.running result
+        ensures ordered { (tries : Tries) × OrdersAll ⟦<S as Viewed>⟧.views Kill H.allows H.refuses
+            tries (sys.old, pool.old) self.old.running result (sys.new, pool.new)
             self.new.running }
     {
-        kill(&mut self.running)
+        order_all(rt, sys, pool, like, Order::Kill, &mut self.running)
+    }
+
+    /// Kills what is left of the groups that this expression's commands led, as `kill_groups` does.
+    pub(crate) fn kill_groups<H: Hook>(
+        &self,
+        rt: &impl Wait,
+        sys: &mut S,
+        pool: &mut Pool<S::Child>,
+        like: &Expression<S::End, H>,
+    )
+        ensures { (tries : Tries) × SignalsGroups ⟦<S as Viewed>⟧.views H.allows H.refuses (pos 9)
+            (shape_view self.now.running.shape)
+            (processes_of ⟦<S as Viewed>⟧.views self.now.running) tries (sys.old, pool.old)
+            (sys.new, pool.new) }
+    {
+        kill_groups(rt, sys, pool, like, &self.running);
     }
 
     /// Returns what runs, or has ended.

@@ -4,7 +4,8 @@ ghost use Rattle.duct_tasks.specs.Turns.{Keeps, WhyAfter, last_of};
 ghost use Rattle.duct_tasks.specs.declared.keeper.Why.TheVariants.{GaveUp};
 
 use crate::many::Progress;
-use crate::once::{Run, is_over, pause, run_once, tell_end};
+use crate::once::{Run, is_over, run_once, tell_end};
+use crate::pauses::{longer, pause};
 use duct::Expression;
 use duct_base::error::Error;
 use duct_base::pool::Pool;
@@ -59,23 +60,16 @@ pub struct Kept {
     pub last: Option<Result<Arc<Output>, Error>>,
 }
 
-// The pause after this one.
-fn longer(pause: Duration, restarts: &Restarts) -> Duration {
-    if pause.is_zero() {
-        restarts.pause.min(restarts.greatest)
-    } else {
-        pause.saturating_mul(2).min(restarts.greatest)
-    }
-}
-
 /// Starts the expression as `Expression::launch` does, polls it as `Expression::run` does until it
 /// has ended, and then, after a pause, starts it again, whether it succeeded or failed. It never
 /// starts it while a command of it may still run, and never more than `restarts.most` times.
 ///
 /// `stop` says whether to stop. It is asked before each start, after each poll that finds no end,
 /// and again and again in a pause; not in the grace. What runs then is sent signal 15, and what is
-/// not known to have ended after the grace is killed. Nothing waits for what was killed. A poll that
-/// fails in the grace ends it: nothing is killed then, and commands may run on in the pool.
+/// not known to have ended after the grace is killed, groups of commands that lead one as in
+/// `run_until`. Nothing waits for what was killed. A poll that fails in the grace ends it: no
+/// command is killed then, and commands may run on in the pool. Once it has ended in the grace, what
+/// is left of its groups is killed.
 ///
 /// `tell` is called with the place of a start, from 0 on, where it starts and where it ends. A kill
 /// is not told.
@@ -122,7 +116,7 @@ pub fn keep<H: Hook, S: System, C: Clock, F: Fn() -> bool, T: Fn(u32, Progress<'
         if !may_start(&kept) {
             return kept;
         }
-        next = longer(next, &service.restarts);
+        next = longer(next, service.restarts.pause, service.restarts.greatest);
     }
     kept
 }

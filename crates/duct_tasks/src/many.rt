@@ -22,7 +22,8 @@ pub enum AtFailure {
     GoOn,
     /// None is started any more, and those that run are waited for.
     Wait,
-    /// None is started any more, and those that run are sent signal 15, and waited for.
+    /// None is started any more, and those that run are sent signal 15, groups of commands that
+    /// lead one as in `run_until`, and waited for.
     Stop,
 }
 
@@ -103,7 +104,7 @@ fn work<H: Hook, S: System, T: Fn(usize, Progress<'_>)>(
         if !crew.is_busy() {
             return;
         }
-        crew.stop_after_failure();
+        crew.stop_after_failure(rt, sys, pool);
         pauses.rest(rt);
         crew.poll_all(pool, tell);
     }

@@ -2,8 +2,8 @@
 ghost use Rattle.std.specs.Prelude.{ℕ, ◌≡◌, true, false, Err, IfNone};
 ghost use Rattle.duct_base.specs.Pool.{counted};
 ghost use Rattle.duct_system.specs.declared.error.Error.{Error};
-ghost use Rattle.duct_tasks.specs.Until.{HasPassed, RunsAlike};
-ghost use Rattle.duct_tasks.specs.Turns.{EndsWith, HasOrders, IsLast, IsOver, StoppedIf, gives, is_stopped, last_of};
+ghost use Rattle.duct_tasks.specs.Until.{HasPassed};
+ghost use Rattle.duct_tasks.specs.Turns.{HasOrders, IsHalted, IsOver, RanAs, StoppedIf, gives, is_stopped, last_of};
 
 use crate::grace::{Asked, Lapsed};
 use crate::keeper::Service;
@@ -11,7 +11,6 @@ use crate::many::Progress;
 use crate::task::{is_failure, spend};
 use crate::watch::watch;
 use duct_base::error::Error;
-use duct_base::pause::Pause;
 use duct_base::pool::Pool;
 use duct_base::spec::Hook;
 use duct_base::system::{Clock, Output, System};
@@ -28,47 +27,33 @@ pub(crate) enum Run {
     Stopped(Option<Result<Arc<Output>, Error>>),
 }
 
-/// Pauses for this long, unless it is to stop. Returns whether it is, which is asked at least once.
-pub(crate) fn pause<C: Clock, F: Fn() -> bool>(
+// Sends signal 15 to what the service runs, and kills what it still runs after the grace, if a poll
+// has not said before how it ended. Then what is left of the groups that its commands led is
+// killed.
+fn end<H: Hook, S: System, C: Clock>(
     rt: &impl Wait,
-    clock: &C,
-    stop: &F,
-    pause: Duration,
-) -> bool
-    requires { F.IsAlwaysCallable stop.now }
-    ensures { F.post stop.now result }
-{
-    let mut pauses = Pause::new();
-    let end = clock.now().saturating_add(pause);
-    for _ in rt.forever() {
-        let stops = stop();
-        if stops || end <= clock.now() {
-            return stops;
-        }
-        pauses.rest(rt);
-    }
-    unreachable!()
-}
-
-// Sends signal 15 to the commands of what runs, and kills those that are not known to have ended
-// after this grace, if a poll has not said before how it ended.
-fn end<S: System, C: Clock>(
-    rt: &impl Wait,
-    clock: &C,
-    grace: Duration,
+    sys: &mut S,
+    pool: &mut Pool<S::Child>,
+    service: &Service<'_, S::End, H, C>,
     running: Running<S>,
 ) -> (Option<Result<Arc<Output>, Error>>, Lapsed<S>)
     requires { HasOrders ⟦<S as Viewed>⟧.views false running }
-    ensures alike { RunsAlike ⟦<S as Viewed>⟧.views running result.1.running }
-    ensures last { IsLast ⟦<S as Viewed>⟧.views true result.0 result.1.running }
-    ensures patient { IfNone result.0 (HasPassed (C.may_show clock.now) grace) }
+    ensures halted { IsHalted ⟦<S as Viewed>⟧.views H.allows H.refuses result.0
+        (sys.old, pool.old) running (sys.new, pool.new) result.1.running }
+    ensures patient { IfNone result.0
+        (HasPassed (C.may_show service.now.clock.now) service.now.restarts.grace) }
 {
-    let last = clock.now().saturating_add(grace);
-    let (ended, mut lapsed) = Asked::new(running).wait(rt, clock, last, false);
+    let like = service.expression;
+    let last = service.clock.now().saturating_add(service.restarts.grace);
+    let asked = Asked::new(rt, sys, pool, like, running);
+    let (ended, mut lapsed) = asked.wait(rt, service.clock, last, false);
     match ended {
-        Some(end) => (Some(end), lapsed),
+        Some(end) => {
+            lapsed.kill_groups(rt, sys, pool, like);
+            (Some(end), lapsed)
+        }
         None => {
-            let _ = lapsed.kill();
+            let _ = lapsed.kill(rt, sys, pool, like);
             (None, lapsed)
         }
     }
@@ -96,8 +81,8 @@ pub(crate) fn run_once<H: Hook, S: System, C: Clock, F: Fn() -> bool, T: Fn(Prog
 ) -> Run
     requires asked { F.IsAlwaysCallable stop.now }
     requires told { T.IsAlwaysCallable tell.now }
-    ensures ran { (given : ℕ) × EndsWith ⟦<S as Viewed>⟧.views H.allows H.refuses
-        (is_stopped result) service.now.expression.now (last_of result) given sys.old sys.new
+    ensures ran { (given : ℕ) × RanAs ⟦<S as Viewed>⟧.views H.allows H.refuses
+        service.now.expression.now (is_stopped result) (last_of result) given sys.old sys.new
         × (pool.new.given ≡ counted pool.old.given given) }
     ensures says { StoppedIf (F.post stop.now true) result }
     ensures patient { IfNone (last_of result)
@@ -112,7 +97,7 @@ pub(crate) fn run_once<H: Hook, S: System, C: Clock, F: Fn() -> bool, T: Fn(Prog
         spend(pool, running, is_failure(&end));
         return Run::Ended(end);
     }
-    let (last, lapsed) = end(rt, service.clock, service.restarts.grace, running);
+    let (last, lapsed) = end(rt, sys, pool, service, running);
     spend(pool, lapsed.into_running(), has_failed(&last));
     Run::Stopped(last)
 }

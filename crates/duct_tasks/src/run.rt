@@ -8,7 +8,7 @@ ghost use Rattle.duct_running.specs.Polled.{ReturnsOutcome};
 ghost use Rattle.duct_handle.specs.Finished.{RanUntil, RanUntilGiven, StoresError, StoresReply};
 ghost use Rattle.duct_handle.specs.Waited.{at_end};
 ghost use Rattle.duct.specs.Launched.{Fails, Launched, RunFailed, draining};
-ghost use Rattle.duct_tasks.specs.Until.{HasReached, HasShownLess, IfDone, IfLate, IsRunUntil, ReturnsInTime, Stops, UnlessEnded};
+ghost use Rattle.duct_tasks.specs.Until.{HasReached, HasShownLess, IfDone, IfLate, IsRunUntil, ReturnsInTime, UnlessEnded, WasStopped};
 
 use crate::grace::Lapsed;
 use crate::late::{Deadline, Late, Until};
@@ -69,9 +69,9 @@ pub(crate) fn launch_until<E: Drop, H: Hook, S: System<End = E>, C: Clock>(
         H.allows draining expression.now sys.old sys.new pool.old pool.new
         (ReturnsInTime ⟦<S as Viewed>⟧.views (C.may_show deadline.now.clock.now)
         (as_nanos deadline.now.moment) output))) }
-    ensures stopped { IfOk result (λ until. IfLate until (λ stopped. Launched
-        ⟦<S as Viewed>⟧.views H.allows draining expression.now sys.old sys.new pool.old pool.new
-        (Stops ⟦<S as Viewed>⟧.views stopped.0 stopped.1.running))) }
+    ensures stopped { IfOk result (λ until. IfLate until (λ stopped. WasStopped
+        ⟦<S as Viewed>⟧.views H.allows H.refuses expression.now (sys.old, pool.old) stopped.0
+        (sys.new, pool.new) stopped.1.running)) }
     ensures late { IfOk result (λ until. IfLate until (λ stopped.
         HasReached (C.may_show deadline.now.clock.now) (as_nanos deadline.now.moment))) }
     ensures grace { IfOk result (λ until. IfLate until (λ stopped. UnlessEnded stopped.0.ended
@@ -92,7 +92,7 @@ pub(crate) fn launch_until<E: Drop, H: Hook, S: System<End = E>, C: Clock>(
             Ok(output) => Ok(Until::Done(output)),
             Err(error) => Err(error),
         },
-        None => Ok(Until::Late(stop(rt, clock, moment, deadline.grace, running))),
+        None => Ok(Until::Late(stop(rt, sys, pool, expression, deadline, running))),
     }
 }
 
@@ -102,16 +102,23 @@ pub(crate) fn launch_until<E: Drop, H: Hook, S: System<End = E>, C: Clock>(
 /// Where the clock shows the moment or a later one while the expression has not ended, it is
 /// stopped: each command that is not known to have ended is sent signal 15, and each that is still
 /// not known to have ended at the end of the grace, or once a poll finds a fault while no command
-/// runs, is killed, each once and from right to left. Nothing waits for what was killed: the
-/// children are given to the pool, where a sweep reaps them. That it was stopped is no error but
+/// runs, is killed, each once and from right to left. A command that leads a group, which is one
+/// whose program is `setsid` or a path to it, is sent neither where its whole group can be sent the
+/// signal, 15 and then 9, by a line of `/bin/sh` over the same system; that is tried even if the
+/// command is known to have ended. Nothing waits for what was killed: the children are given to the
+/// pool, where a sweep reaps them. That it was stopped is no error but
 /// `Until::Late`, with how it ended and what the kill returned. A command is sent neither once it is
 /// known to have ended; and a command whose order finds no memory to be noted gets the other one
 /// alone, or none. An allocation failure of a poll doesn't end the grace: it is polled again.
 ///
 /// The call blocks until then, and returns late by the pause between two polls, at most 50
-/// milliseconds, and by as long as the signal takes: over a `Host` that waits for a shell for each
-/// command. What the commands started themselves gets no order, and is not waited for beyond the
-/// grace: where it holds a capture pipe, the expression is late with all its commands ended.
+/// milliseconds, and by as long as the signals take: each waits for a shell, that to a group over
+/// any system, and that to a command over a `Host`. What the commands started themselves gets no
+/// signal, unless it is in a group that one of them leads, and is not waited for beyond the grace:
+/// where it holds a capture pipe, the expression is late with all its commands ended. Once all have
+/// ended in the grace, what is left of their groups is killed at once. What calls `setsid` itself
+/// has left the group, and stays. A group's id is that of its command's process, which the machine
+/// may give to another once nothing of the group is left.
 ///
 /// Fails as `run` does, and leaves the same: where a fault ends the wait in time, its commands may
 /// run on in the pool, without an order.

@@ -3,18 +3,20 @@ ghost use Rattle.std.specs.Prelude.{ℕ, Bool, ◌≡◌, ◌≤◌, if◌then�
 ghost use Rattle.duct_base.specs.Pool.{counted};
 ghost use Rattle.duct_run.specs.Requested.{PoolGets};
 ghost use Rattle.duct_running.specs.NumbersView.{numbers_of};
-ghost use Rattle.duct_tasks.specs.Turns.{Advances, AreEnds, Turn, failed_of, gives, running_of};
+ghost use Rattle.duct_tasks.specs.Turns.{Advances, AreEnds, Stops, Turn, failed_of, gives, running_of};
 
-use crate::watch::{ask, ended};
+use crate::group::order_all;
+use crate::late::TERMINATE;
+use crate::watch::ended;
 use duct::Expression;
 use duct_base::error::Error;
 use duct_base::pool::Pool;
 use duct_base::spec::Hook;
-use duct_base::system::{Output, System};
+use duct_base::system::{Order, Output, System};
 use duct_running::running::Running;
 use duct_system::views::Viewed;
 use std::mem::replace;
-use std::sync::Arc;
+use std::sync::{Arc, Wait};
 
 /// A task that was started: it runs, or has ended.
 pub(crate) enum Task<R> {
@@ -80,14 +82,23 @@ pub(crate) fn advance<S: System>(pool: &mut Pool<S::Child>, task: &mut Task<Runn
     true
 }
 
-/// Sends signal 15 to a task, if it runs. One that can't be sent it is waited for all the same.
-pub(crate) fn terminate<S: System>(task: &mut Task<Running<S>>)
+/// Sends signal 15 to a task, if it runs, as `order_all` gives an order. One that can't be sent it
+/// is waited for all the same.
+pub(crate) fn terminate<H: Hook, S: System>(
+    rt: &impl Wait,
+    sys: &mut S,
+    pool: &mut Pool<S::Child>,
+    like: &Expression<S::End, H>,
+    task: &mut Task<Running<S>>,
+)
     ensures goes { Advances ⟦<S as Viewed>⟧.views false true task.old task.new 0 }
+    ensures signals { Stops ⟦<S as Viewed>⟧.views H.allows H.refuses (sys.old, pool.old)
+        (sys.new, pool.new) }
     ensures runs { running_of task.new ≡ running_of task.old }
     ensures fails { failed_of task.new ≡ failed_of task.old }
 {
     if let Task::Running(running) = task {
-        ask(running);
+        let _ = order_all(rt, sys, pool, like, Order::Signal(TERMINATE), running);
     }
 }
 

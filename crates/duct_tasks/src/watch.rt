@@ -1,21 +1,16 @@
-//! The wait for what runs, and the two orders that end it.
-ghost use Rattle.std.specs.Prelude.{◌≡◌, ◌⊎◌, true, false, IfNone, IfSome, IsSome, Ok, Err, None};
+//! The wait for what runs.
+ghost use Rattle.std.specs.Prelude.{◌≡◌, ◌⊎◌, true, false, IfNone, IfSome, IsSome, Err};
 ghost use Rattle.std.specs.Duration.{as_nanos};
 ghost use Rattle.duct_system.specs.declared.error.Error.TheVariants as error;
-ghost use Rattle.duct_system.specs.declared.system.Order.TheVariants.{Kill};
-ghost use Rattle.duct_running.specs.Allowed.{OneRuns, StoresAllowed};
-ghost use Rattle.duct_running.specs.Answered.{ReturnsConclusion};
-ghost use Rattle.duct_running.specs.NumbersView.{numbers_of};
-ghost use Rattle.duct_running.specs.Ordered.{ChildrenOrdered};
-ghost use Rattle.duct_running.specs.Polled.{ReturnsOutcome, PolledOnce, StaysSame};
+ghost use Rattle.duct_running.specs.Polled.{PolledOnce, StaysSame};
 ghost use Rattle.duct_handle.specs.Waited.{at_end};
-ghost use Rattle.duct_tasks.specs.Until.{HasNotEnded, HasReached, HasShownLess, RunsAlike, StoresEnd, WasPolled};
-ghost use Rattle.duct_tasks.specs.Turns.{HasOrders};
+ghost use Rattle.duct_tasks.specs.Groups.{processes_of};
+ghost use Rattle.duct_tasks.specs.Until.{HasNotEnded, HasReached, HasShownLess, StoresEnd, WasPolled};
 
-use crate::late::TERMINATE;
 use duct_base::error::Error;
 use duct_base::pause::Pause;
 use duct_base::system::{Clock, Output, System};
+use duct_handle::poll::polled;
 use duct_running::running::Running;
 use duct_system::views::Viewed;
 use std::sync::{Arc, Wait};
@@ -27,21 +22,6 @@ pub(crate) fn is_over<C: Clock>(clock: &C, moment: Duration) -> bool
     ensures early { result ≡ false → HasShownLess (C.may_show clock.now) (as_nanos moment) }
 {
     moment.as_nanos() <= clock.now().as_nanos()
-}
-
-// Polls what runs, once. The result is concluded from what was reported under its numbers.
-fn polled<S: System>(running: &mut Running<S>) -> Result<Option<Arc<Output>>, Error>
-    ensures polls { PolledOnce ⟦<S as Viewed>⟧.views running.old running.new }
-    ensures stays { StaysSame ⟦<S as Viewed>⟧.views running.old running.new }
-    ensures outcome { ReturnsOutcome ⟦<S as Viewed>⟧.views running.new result }
-    ensures allowed { ∥ StoresAllowed ⟦<S as Viewed>⟧.views running.new ∥₁ }
-    ensures concluded { ReturnsConclusion ⟦<S as Viewed>⟧.views running.new result }
-    ensures runs { result ≡ Ok None
-        → OneRuns ⟦<S as Viewed>⟧.views (numbers_of ⟦<S as Viewed>⟧.views running.new) }
-{
-    let polled = running.poll();
-    running.answers_allowed();
-    polled
 }
 
 /// Polls what runs, once, and returns how it ended, if it did. A fault is no end while a command
@@ -87,6 +67,8 @@ pub(crate) fn watch<S: System, F: Fn() -> bool>(
 ) -> Option<Result<Arc<Output>, Error>>
     requires { F.IsAlwaysCallable stop.now }
     ensures stays { StaysSame ⟦<S as Viewed>⟧.views running.old running.new }
+    ensures processes { processes_of ⟦<S as Viewed>⟧.views running.new
+        ≡ processes_of ⟦<S as Viewed>⟧.views running.old }
     ensures polls { WasPolled ⟦<S as Viewed>⟧.views running.old running.new }
     ensures stores { StoresEnd ⟦<S as Viewed>⟧.views result running.new }
     ensures in_time { F.post stop.now false
@@ -106,22 +88,4 @@ pub(crate) fn watch<S: System, F: Fn() -> bool>(
         pauses.rest(rt);
     }
     unreachable!()
-}
-
-/// Sends signal 15 to each command that is not known to have ended. One that can't be sent it runs
-/// on as before.
-pub(crate) fn ask<S: System>(running: &mut Running<S>)
-    ensures alike { RunsAlike ⟦<S as Viewed>⟧.views running.old running.new }
-    ensures sent { HasOrders ⟦<S as Viewed>⟧.views false running.old
-        → HasOrders ⟦<S as Viewed>⟧.views true running.new }
-{
-    let _ = running.signal(TERMINATE);
-}
-
-/// Kills each command that is not known to have ended, once and from right to left.
-pub(crate) fn kill<S: System>(running: &mut Running<S>) -> Result<(), Error>
-    ensures alike { RunsAlike ⟦<S as Viewed>⟧.views running.old running.new }
-    ensures ordered { ChildrenOrdered ⟦<S as Viewed>⟧.views Kill running.old result running.new }
-{
-    running.kill()
 }

@@ -70,7 +70,8 @@ impl<'t, 'r, R: Wait + Threads, M: Machine> Calls<'t, 'r, R, M> {
     }
 
     /// Makes the calls of a line. Notes if the pool was given another number of children than were
-    /// started, or was given one although the call keeps them.
+    /// started, or was given one although the call keeps them. A run or a read with a limit, `tasks`
+    /// and `keep` may also start lines of a shell, whose children they keep.
     fn call(&mut self, key: &str, text: &str) -> Result<(), TableError> {
         self.answers.clear();
         self.is_kept = false;
@@ -89,6 +90,7 @@ impl<'t, 'r, R: Wait + Threads, M: Machine> Calls<'t, 'r, R, M> {
         let owed = if self.is_kept { 0 } else { started };
         let is_right = match key {
             "tasks" | "keep" => given <= started,
+            "run" | "read" if !text.is_empty() && !self.is_kept => given <= started,
             _ => given == owed,
         };
         self.is_lost = self.is_lost || !is_right;

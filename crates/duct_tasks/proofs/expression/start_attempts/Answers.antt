@@ -15,15 +15,15 @@ loop-preserved g c =
         says = record
             { met = c.if-not-is_transient.ensures };
       },
-    )
+    ) c.rest-pause.result c.rest-pause.ensures.longer c.rest-pause.ensures.passed
 
 pub returns-in-Ok : goal.returns-in-Ok
-returns-in-Ok g c = ends c.loop.invariant c.args.most (omega (arith, c.loop-test.true))
+returns-in-Ok g c = ends c.loop.invariant c.args.retries.now.most (omega (arith, c.loop-test.true))
     c.in-Ok.ensures tt
 
 pub returns-then-not-is_transient : goal.returns-then-not-is_transient
 returns-then-not-is_transient g c =
-    ends c.loop.invariant c.args.most (omega (arith, c.loop-test.true)) c.in-Err.ensures
+    ends c.loop.invariant c.args.retries.now.most (omega (arith, c.loop-test.true)) c.in-Err.ensures
     (inl (record {
       shown = _;
       shows = refl;
@@ -32,5 +32,5 @@ returns-then-not-is_transient g c =
 
 pub returns : goal.returns
 returns g c =
-    gives_up c.loop.invariant c.args.most (omega (arith, c.loop-test.false, c.loop.auto))
+    gives_up c.loop.invariant c.args.retries.now.most (omega (arith, c.loop-test.false, c.loop.auto))
     c.start_once-2.result c.start_once-2.ensures

@@ -25,7 +25,7 @@ returns-then-pause g c =
     l.kept.starts l.kept.last l.sys l.pool l.invariant.so_far service.restarts
     (g.C.Clock.may_show service.clock.now) Stopped
     (omega (arith, l.invariant.starts, l.invariant.most, c.loop-place-test.true))
-    (subst (λ (b : Bool). says b) c.if-pause.true c.pause.ensures)
+    (subst (λ (b : Bool). says b) c.if-pause.true c.pause.ensures.says)
 
 pub loop-place-preserved : goal.loop-place-preserved
 loop-place-preserved g c =
@@ -42,7 +42,7 @@ loop-place-preserved g c =
           c.args.pool.now
           l.kept.starts l.kept.last l.sys l.pool l.invariant.so_far service.restarts
           (g.C.Clock.may_show service.clock.now) run.result run.new.sys run.new.pool
-          (subst (λ (b : Bool). says b) c.if-pause.false c.pause.ensures) run.ensures.ran
+          (subst (λ (b : Bool). says b) c.if-pause.false c.pause.ensures.says) run.ensures.ran
           kept.result
           (omega (arith, l.invariant.starts, kept.ensures.starts)) kept.ensures.last
           kept.ensures.why on;
@@ -62,7 +62,7 @@ returns-then-not-may_start g c =
     g.H.Hook.allows g.H.Hook.refuses service.expression.now says c.args.sys.now c.args.pool.now
     l.kept.starts l.kept.last l.sys l.pool l.invariant.so_far service.restarts
     (g.C.Clock.may_show service.clock.now) run.result run.new.sys run.new.pool
-    (subst (λ (b : Bool). says b) c.if-pause.false c.pause.ensures) run.ensures.ran kept.result
+    (subst (λ (b : Bool). says b) c.if-pause.false c.pause.ensures.says) run.ensures.ran kept.result
     (omega (arith, l.invariant.starts, kept.ensures.starts)) kept.ensures.last kept.ensures.why
     (c.may_start.ensures.no c.if-not-may_start.true)
     (omega (arith, l.invariant.starts, l.invariant.most, c.loop-place-test.true)) run.ensures.says

@@ -1,26 +1,37 @@
-use Rattle.std.proofs.Common.{◌∙◌, inr, refl, true}
-use Rattle.duct_tasks.proofs.Common.{views_of}
-use Rattle.duct_tasks.proofs.Signalled.{orders_left}
+use Rattle.std.proofs.Common.{◌∙◌, refl}
 use Rattle.duct_tasks.proofs.once.end.Goals as goal
 
-pub returns-in-Some-clause-alike : goal.returns-in-Some-clause-alike
-returns-in-Some-clause-alike g c = c.wait-ended.ensures.alike ∙ c.new.ensures.alike
+pub returns-in-Some-clause-halted : goal.returns-in-Some-clause-halted
+returns-in-Some-clause-halted g c =
+    let asked = c.new-asked.ensures.signalled in
+    record {
+      tries = asked.0;
+      kills = c.kill_groups.ensures.0;
+      between = (c.new-asked.new.sys, c.new-asked.new.pool);
+      polled = c.wait-ended.result.1.running;
+      signals = asked.1;
+      alike = c.wait-ended.ensures.alike ∙ c.new-asked.ensures.alike;
+      processes = c.wait-ended.ensures.processes ∙ c.new-asked.ensures.processes;
+      lapsed = rw c.in-Some.is at (c.wait-ended.ensures.lapsed asked.0 asked.2);
+      ended = (refl, c.kill_groups.ensures.1);
+      killed = tt;
+    }
 
-pub returns-in-Some-clause-last : goal.returns-in-Some-clause-last
-returns-in-Some-clause-last g c =
-    let lapsed = c.wait-ended.ensures.lapsed in
-    let kept = orders_left (views_of g.S.System g.S.End.Numbered g.S.Child.Child g.S.Feed.Job
-    g.S.Drain.Job) true lapsed.0 c.wait-ended.result.1.running lapsed.2 lapsed.1 in
-    (inr kept, rw c.in-Some.is at lapsed.3)
-
-pub returns-in-None-clause-alike : goal.returns-in-None-clause-alike
-returns-in-None-clause-alike g c =
-    c.kill.ensures.alike ∙ c.wait-ended.ensures.alike ∙ c.new.ensures.alike
-
-pub returns-in-None-clause-last : goal.returns-in-None-clause-last
-returns-in-None-clause-last g c =
-    let lapsed = rw c.in-None.is at c.wait-ended.ensures.lapsed in
-    (refl, c.wait-ended.result.1.running, lapsed, c.kill.result, c.kill.ensures.ordered)
+pub returns-in-None-clause-halted : goal.returns-in-None-clause-halted
+returns-in-None-clause-halted g c =
+    let asked = c.new-asked.ensures.signalled in
+    record {
+      tries = asked.0;
+      kills = c.kill.ensures.ordered.0;
+      between = (c.new-asked.new.sys, c.new-asked.new.pool);
+      polled = c.wait-ended.result.1.running;
+      signals = asked.1;
+      alike = c.wait-ended.ensures.alike ∙ c.new-asked.ensures.alike;
+      processes = c.wait-ended.ensures.processes ∙ c.new-asked.ensures.processes;
+      lapsed = rw c.in-None.is at (c.wait-ended.ensures.lapsed asked.0 asked.2);
+      ended = tt;
+      killed = (c.kill.result, c.kill.ensures.alike, c.kill.ensures.ordered.1);
+    }
 
 pub returns-in-None-clause-patient : goal.returns-in-None-clause-patient
 returns-in-None-clause-patient g c =

@@ -1,7 +1,7 @@
 use Rattle.std.proofs.Common.{◌++◌, inl, inr, refl, subst, ℕ, ◌≡◌, map, option_to_list}
-use Rattle.duct_tasks.proofs.Common.{err_from_is_err_and, PoolGets, views_of, added_between, draining, tree_view, ReadsFirst, last_read}
+use Rattle.duct_tasks.proofs.Common.{err_from_is_err_and, PoolGets, views_of, ReadsFirst, last_read}
 use Rattle.std.specs.Duration.{as_nanos}
-use Rattle.duct_tasks.proofs.Ending.{first_drain, launch_stopped}
+use Rattle.duct_tasks.proofs.Ending.{first_drain, takes_stopped}
 use Rattle.duct_tasks.proofs.read.read_until.Goals as goal
 
 pub returns-in_err-captured : goal.returns-in_err-captured
@@ -75,12 +75,16 @@ returns g c =
       record {
         captured = captured;
         is_captured = c.in_ok-captured.ensures.tree;
-        stopped = launch_stopped views g.H.Hook.allows captured c.args.sys.now
-            c.launch_until.new.sys c.args.pool.now
-            c.launch_until.new.pool c.give_all.new.pool c.in-Late.late lapsed l gets;
-        read = first_drain views draining (tree_view captured)
-            (added_between views c.args.sys.now c.launch_until.new.sys)
-            c.in-Late.late lapsed l.makes _ drains shows nanos c.first_bytes_until-read.result
+        stopped = record {
+          running = lapsed;
+          ended = c.launch_until.new.pool;
+          stopped = l;
+          pool = takes_stopped views g.H.Hook.allows g.H.Hook.refuses captured c.in-Late.late lapsed
+              c.launch_until.new.pool c.give_all.new.pool gets;
+        };
+        read = first_drain views g.H.Hook.allows g.H.Hook.refuses captured c.in-Late.late
+            (c.args.sys.now, c.args.pool.now) (c.launch_until.new.sys, c.launch_until.new.pool)
+            lapsed l _ drains shows nanos c.first_bytes_until-read.result
             (subst (λ (n : ℕ). ReadsFirst views.drain_says shows n
             (map (λ d. (views.drain d).number) c.into_parts-children.result.2.items)
             c.first_bytes_until-read.result) at_last c.first_bytes_until-read.ensures);

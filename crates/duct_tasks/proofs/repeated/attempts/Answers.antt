@@ -17,11 +17,11 @@ loop-preserved g c =
         leaves = (refl, refl);
       },
       record { shown = _; shows = refl; says = record { met = c.if-not-is_transient.ensures } },
-    )
+    ) c.rest-pause.result c.rest-pause.ensures.longer c.rest-pause.ensures.passed
 
 pub returns-in-Ok : goal.returns-in-Ok
 returns-in-Ok g c =
-    ends c.loop.invariant c.args.most (omega (arith, c.loop-test.true))
+    ends c.loop.invariant c.args.retries.now.most (omega (arith, c.loop-test.true))
     (record {
       first = _;
       second = _;
@@ -33,7 +33,7 @@ returns-in-Ok g c =
 
 pub returns-then-not-is_transient : goal.returns-then-not-is_transient
 returns-then-not-is_transient g c =
-    ends c.loop.invariant c.args.most (omega (arith, c.loop-test.true))
+    ends c.loop.invariant c.args.retries.now.most (omega (arith, c.loop-test.true))
     (record {
       first = _;
       second = _;
@@ -50,7 +50,7 @@ returns-then-not-is_transient g c =
 
 pub returns : goal.returns
 returns g c =
-    gives_up c.loop.invariant c.args.most (omega (arith, c.loop-test.false, c.loop.auto))
+    gives_up c.loop.invariant c.args.retries.now.most (omega (arith, c.loop-test.false, c.loop.auto))
     c.attempt-2.result
     (record {
       first = _;

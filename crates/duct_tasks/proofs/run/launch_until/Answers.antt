@@ -1,8 +1,8 @@
 use Rattle.std.proofs.Common.{◌≡◌, inl, inr, refl, []}
-use Rattle.duct_tasks.proofs.Common.{All-map, err_from_is_err_and, views_of, Fails, added_between, draining, tree_view}
+use Rattle.duct_tasks.proofs.Common.{All-map, err_from_is_err_and, views_of, Fails, draining}
 use Rattle.duct_handle.specs.Finished.{StoresError}
 use Rattle.duct.proofs.Finished.{ran_tree, wait_failed}
-use Rattle.duct_tasks.proofs.Ending.{is_late}
+use Rattle.duct_tasks.proofs.Ending.{was_stopped}
 use Rattle.duct_tasks.proofs.Staying.{alike, stays_on}
 use Rattle.duct_tasks.proofs.run.launch_until.Goals as goal
 
@@ -69,13 +69,9 @@ returns-in-Err-clause-failed g c =
 pub returns-in-None-clause-stopped : goal.returns-in-None-clause-stopped
 returns-in-None-clause-stopped g c =
     let views = views_of g.S.System g.E.Numbered g.S.Child.Child g.S.Feed.Job g.S.Drain.Job in
-    let l = c.in_ok-running.ensures.launched in
-    let added = added_between views c.args.sys.now c.launch.new.sys in
-    record {
-      asked = l.asked;
-      makes = is_late views draining (tree_view c.args.expression.now) added c.stop.result.0
-          c.in_ok-running.running c.watch.new.running
-          c.stop.result.1.running l.makes (alike views _ _ c.watch.ensures.stays)
-          (rw c.in-None.is at c.watch.ensures.runs) c.stop.ensures.stopped;
-      swept = l.swept;
-    }
+    was_stopped views g.H.Hook.allows g.H.Hook.refuses c.args.expression.now c.stop.result.0
+    (c.args.sys.now, c.args.pool.now) (c.launch.new.sys, c.launch.new.pool)
+    (c.stop.new.sys, c.stop.new.pool) c.in_ok-running.running c.watch.new.running
+    c.stop.result.1.running c.in_ok-running.ensures.launched
+    (alike views _ _ c.watch.ensures.stays) (rw c.in-None.is at c.watch.ensures.runs)
+    c.stop.ensures.stopped

@@ -1,5 +1,5 @@
 use Rattle.duct_tasks.proofs.Common.{err_from_is_err_and, views_of, PoolGets}
-use Rattle.duct_tasks.proofs.Ending.{launch_stopped}
+use Rattle.duct_tasks.proofs.Ending.{takes_stopped}
 use Rattle.duct_tasks.proofs.run.run_until.Goals as goal
 
 pub returns-in_err-output : goal.returns-in_err-output
@@ -21,8 +21,11 @@ returns-in-Late g c =
         patient = rw c.in-Late.is at
             c.in_ok-output.ensures.grace;
       },
-      launch_stopped views g.H.Hook.allows c.args.expression.now c.args.sys.now
-          c.launch_until.new.sys c.args.pool.now
-          c.launch_until.new.pool c.give_up.new.pool c.in-Late.late c.in-Late.lapsed.running
-          (rw c.in-Late.is at c.in_ok-output.ensures.stopped) gets,
+      record {
+        running = c.in-Late.lapsed.running;
+        ended = c.launch_until.new.pool;
+        stopped = rw c.in-Late.is at c.in_ok-output.ensures.stopped;
+        pool = takes_stopped views g.H.Hook.allows g.H.Hook.refuses c.args.expression.now
+            c.in-Late.late c.in-Late.lapsed.running c.launch_until.new.pool c.give_up.new.pool gets;
+      },
     )

@@ -12,10 +12,17 @@ returns-clause-grace g c = (
 )
 
 pub returns-clause-stopped : goal.returns-clause-stopped
-returns-clause-stopped g c = (
-  c.wait-ended.result.1.running,
-  c.wait-ended.ensures.alike ∙ c.new.ensures.alike,
-  c.wait-ended.ensures.lapsed,
-  c.kill-killed.ensures.alike,
-  c.kill-killed.ensures.ordered,
-)
+returns-clause-stopped g c =
+    let asked = c.new-asked.ensures.signalled in
+    record {
+      tries = asked.0;
+      kills = c.kill-killed.ensures.ordered.0;
+      between = (c.new-asked.new.sys, c.new-asked.new.pool);
+      polled = c.wait-ended.result.1.running;
+      signals = asked.1;
+      alike = c.wait-ended.ensures.alike ∙ c.new-asked.ensures.alike;
+      processes = c.wait-ended.ensures.processes ∙ c.new-asked.ensures.processes;
+      lapsed = c.wait-ended.ensures.lapsed asked.0 asked.2;
+      ordered = c.kill-killed.ensures.ordered.1;
+      kept = c.kill-killed.ensures.alike;
+    }

@@ -1,4 +1,4 @@
-use Rattle.std.proofs.Common.{◌≡◌, ap, refl, subst, Bool, length, if◌then◌else◌, Some}
+use Rattle.std.proofs.Common.{◌≡◌, ap, refl, subst, Bool, length, if◌then◌else◌}
 use Rattle.duct_tasks.proofs.Common.{RunningView, views_of, numbers_of, IsLast, RunsAlike}
 use Rattle.duct_tasks.proofs.Signalled.{had_orders, orders_left}
 use Rattle.duct_tasks.proofs.Staying.{alike}
@@ -17,7 +17,7 @@ returns-clause-goes g c =
         after,
         subst (λ (r : RunningView _ _ _). RunsAlike views before r) same
             (alike views _ _ c.ended.ensures.stays),
-        λ orders. subst (λ (r : RunningView _ _ _). IsLast views sent (Some c.in-Some.end) r) same (
+        λ orders. subst (λ (r : RunningView _ _ _). IsLast views sent c.in-Some.end r) same (
           had_orders views sent _ (orders_left views sent _ _ c.ended.ensures.polls orders),
           rw
               c.in-Some.is at c.ended.ensures.stores,

@@ -17,5 +17,5 @@ returns-in-Err-System-clause-runs g c =
       c.in-Err-System.field-0-0,
       subst (λ (p : Polled). ReturnsConclusion views c.polled.new.running p)
           (c.in-Err-System.is ∙ ap (λ (e : Error). Err e) c.in-Err-System.field-0-is)
-          c.polled.ensures.concluded,
+          c.polled.ensures.ending,
     )

@@ -1,6 +1,6 @@
-use Rattle.std.proofs.Common.{◌≡◌, false, true, inl, inr, refl, subst}
+use Rattle.std.proofs.Common.{◌≡◌, ◌∙◌, false, true, inl, inr, refl, subst}
 use Rattle.duct_tasks.proofs.Common.{views_of, PolledOnce}
-use Rattle.duct_tasks.proofs.Signalled.{orders_left}
+use Rattle.duct_tasks.proofs.Signalled.{processes_left, signals_left}
 use Rattle.duct_tasks.proofs.Staying.{stays_on, stays_same}
 use Rattle.duct_tasks.proofs.watch.watch.Goals as goal
 
@@ -9,8 +9,8 @@ loop-init g c = record {
   can = tt;
   ends = tt;
   stays = stays_same c.args.running.now;
-  signalled = λ
-      all. all;
+  processes = refl;
+  signalled = λ tries all. all;
   looked = inl refl;
 }
 
@@ -21,9 +21,11 @@ loop-preserved g c =
       can = tt;
       ends = tt;
       stays = stays_on c.loop.invariant.stays c.ended-end.ensures.stays;
-      signalled = λ all. orders_left (views_of g.S.System g.S.End.Numbered g.S.Child.Child
-          g.S.Feed.Job g.S.Drain.Job) true _ _ c.ended-end.ensures.polls
-          (c.loop.invariant.signalled all);
+      processes = processes_left (views_of g.S.System g.S.End.Numbered g.S.Child.Child
+          g.S.Feed.Job g.S.Drain.Job) _ _ c.ended-end.ensures.polls ∙ c.loop.invariant.processes;
+      signalled = λ tries all. signals_left (views_of g.S.System g.S.End.Numbered g.S.Child.Child
+          g.S.Feed.Job g.S.Drain.Job) tries _ _ c.ended-end.ensures.polls
+          (c.loop.invariant.signalled tries all);
       looked = inr (subst (λ b. g.F.Fn.post c.args.stop.now tt b) no c.stop.ensures);
     }
 
@@ -39,3 +41,8 @@ returns-then-is_final-clause-in_time g c =
 pub returns-then-is_final-clause-polls : goal.returns-then-is_final-clause-polls
 returns-then-is_final-clause-polls g c =
     (c.loop.running, c.loop.invariant.stays, c.loop.invariant.signalled, c.ended-end.ensures.polls)
+
+pub returns-then-is_final-clause-processes : goal.returns-then-is_final-clause-processes
+returns-then-is_final-clause-processes g c =
+    processes_left (views_of g.S.System g.S.End.Numbered g.S.Child.Child g.S.Feed.Job
+    g.S.Drain.Job) _ _ c.ended-end.ensures.polls ∙ c.loop.invariant.processes

@@ -1,5 +1,5 @@
 use Rattle.std.proofs.Common.{arith, refl}
-use Rattle.duct_tasks.proofs.Common.{failed_of, running_of, Task}
+use Rattle.duct_tasks.proofs.Common.{length-set, failed_of, running_of, Task}
 use Rattle.duct_tasks.proofs.Counting.{changed, either}
 use Rattle.duct_tasks.proofs.Turning.{goes_at}
 use Rattle.duct_tasks.proofs.crew.Crew+S+End+H+Running+S.poll.Goals as goal
@@ -30,6 +30,7 @@ invariant_of-self g c =
           (λ is. omega (arith, c.has_failed.ensures is, fails));
       stops = λ is. let stop = self.stops is in (rw stop.0 refl, stop.1);
       room = self.room;
+      within = rw (length-set self.started.items c.args.at after) self.within;
     }
 
 pub returns-clause-turns : goal.returns-clause-turns

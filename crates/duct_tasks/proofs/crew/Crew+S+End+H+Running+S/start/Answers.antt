@@ -1,4 +1,4 @@
-use Rattle.std.proofs.Common.{◌≡◌, ◌∙◌, arith, ap, sym, false, true, subst, length, ℕ, List, get_or, sum_by}
+use Rattle.std.proofs.Common.{◌≡◌, ◌∙◌, arith, ap, sym, false, true, subst, length, length-append, [], ◌∷◌, ℕ, List, get_or, sum_by}
 use Rattle.duct_tasks.proofs.Common.{sum_by_push, Expression, views_of, Turn, failed_of, running_of, Task}
 use Rattle.duct_tasks.proofs.Counting.{either}
 use Rattle.duct_tasks.proofs.Ends.{not_stopped}
@@ -32,6 +32,12 @@ invariant_of-self g c =
           (λ is. omega (arith, c.has_failed.ensures is, fails, failed));
       stops = λ is. absurd (let no : false ≡ true = calm ∙ is in cc);
       room = rw c.push_reserved.ensures.capacity self.room;
+      within = omega (
+        arith,
+        c.requires.some,
+        ap (λ (ts : List (Task _)). length ts) items,
+        length-append self.started.items (c.started-made.result ∷ []),
+      );
     }
 
 pub returns-clause-turn : goal.returns-clause-turn
@@ -45,8 +51,8 @@ returns-clause-turn g c =
     let views = views_of g.S.System g.S.End.Numbered g.S.Child.Child g.S.Feed.Job g.S.Drain.Job in
     let calm : self.stopped ≡ false = not_stopped self.tasks.at_failure self.failed self.stopped
     self.stops c.requires.goes_on in
-    let turn = subst (λ (e : Expression _ _). Turn views g.H.Hook.allows g.H.Hook.refuses
-    self.stopped e c.started-made.result made.0 c.args.sys.now c.started-made.new.sys)
-    (sym c.index-self-len.is) (rw calm made.1) in
-    rw c.push_reserved.ensures.items (goes_next self.stopped self.started.items
+    let turn = subst (λ (e : Expression _ _). Turn views g.H.Hook.allows g.H.Hook.refuses false e
+    c.started-made.result made.0 c.args.sys.now c.started-made.new.sys)
+    (sym c.index-self-len.is) made.1 in
+    rw (c.push_reserved.ensures.items, calm) (goes_next self.started.items
     c.index-self-len.result c.started-made.result root c.requires.some (made.0, turn, made.2))

@@ -1,5 +1,6 @@
-use Rattle.std.proofs.Common.{◌≡◌, ◌+◌, ◌<◌, arith, ◌∙◌, refl, subst, ℕ, suc, false, true, length, set}
+use Rattle.std.proofs.Common.{[], ◌≡◌, ◌+◌, ◌<◌, arith, ◌∙◌, refl, subst, ℕ, suc, false, true, length, set}
 use Rattle.duct_tasks.proofs.Common.{length-set, views_of, Advances, failed_of, running_of, Task}
+use Rattle.duct_tasks.proofs.GroupLines.{stops_on}
 use Rattle.duct_tasks.proofs.Counting.{ChangedBelow, all_changed, changed, next_changed}
 use Rattle.duct_tasks.proofs.crew.Crew+S+End+H+Running+S.terminate.Goals as goal
 
@@ -21,6 +22,7 @@ invariant_of-self g c =
       fails = λ is. omega (arith, now.fails is, c.terminate.ensures.fails, fails);
       stops = now.stops;
       room = now.room;
+      within = rw (length-set now.started.items c.loop-at.at after) now.within;
     }
 
 pub loop-at-init : goal.loop-at-init
@@ -30,6 +32,7 @@ loop-at-init g c = record {
   stopped = refl;
   count = omega (arith, c.len-at-end.ensures, c.args.self.now.started.ok.0);
   sent = refl;
+  signals = ([], refl);
 }
 
 pub loop-at-preserved : goal.loop-at-preserved
@@ -53,6 +56,10 @@ loop-at-preserved g c =
           false true before after 0) c.loop-at.at c.args.self.now.started.items now.started.items
           c.index_mut.result.now c.terminate.new.task i.sent c.index_mut.ensures.value some
           c.terminate.ensures.goes);
+      signals = stops_on (views_of g.S.System g.S.End.Numbered g.S.Child.Child g.S.Feed.Job
+          g.S.Drain.Job) g.H.Hook.allows g.H.Hook.refuses (c.args.sys.now, c.args.pool.now)
+          (c.loop-at.sys, c.loop-at.pool) (c.terminate.new.sys, c.terminate.new.pool) i.signals
+          c.terminate.ensures.signals;
     }
 
 pub returns-clause-sent : goal.returns-clause-sent

@@ -9,4 +9,4 @@ returns-clause-alike g c = alike (views_of g.S.System g.S.End.Numbered g.S.Child
 pub returns-clause-lapsed : goal.returns-clause-lapsed
 returns-clause-lapsed g c =
     let polled = c.watch-ended.ensures.polls in
-    (polled.0, polled.2 c.requires, polled.3, c.watch-ended.ensures.stores)
+    λ tries are. (polled.0, polled.2 tries are, polled.3, c.watch-ended.ensures.stores)
