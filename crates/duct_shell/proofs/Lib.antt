@@ -1,6 +1,5 @@
 pub mod Asked
-pub mod Copying
 pub mod Explaining
+pub mod Keys
 pub mod LineSteps
 pub mod Sharing
-pub mod Tails

@@ -1,5 +1,5 @@
--- What a failure becomes as an `io::Error`, an `io::Error` as an error of the library, and what is
--- returned of an expression that std's calls read.
+-- What a failure's cause is, what it becomes as an `io::Error`, an `io::Error` as an error of the
+-- library, and what is returned of an expression that std's calls read.
 use Rattle.std.specs.Prelude.{◌≡◌, ◌⊎◌, Ok, Err, Some, Result}
 use Rattle.std.specs.declared.io.ErrorKind.{ErrorKind}
 use Rattle.std.specs.declared.io.ErrorKind.TheVariants as kind
@@ -7,12 +7,10 @@ use Rattle.std.specs.IoError.{error_kind}
 use Rattle.std.specs.declared.alloc.Global.{Global}
 use Rattle.std.specs.declared.sync.Arc.{Arc}
 use Rattle.std.specs.declared.io.Error as io
+use Rattle.std.specs.declared.env.VarError.TheVariants as variable
 use Rattle.duct_system.specs.declared.error.Error.{Error}
-use Rattle.duct_system.specs.declared.system.Fault.{Fault}
-use Rattle.duct_system.specs.declared.system.Kind.{Kind}
 use Rattle.duct_system.specs.Kinds.{name_of}
 use Rattle.duct_system.specs.declared.error.Error.TheVariants as error
-use Rattle.duct_system.specs.declared.system.Kind.TheVariants.{Other}
 use Rattle.duct_system.specs.declared.system.Output.{Output}
 use Rattle.duct_status.specs.ShapeView.{shape_view}
 use Rattle.duct_base.specs.Transfer.{stop_fault}
@@ -20,19 +18,40 @@ use Rattle.duct_system.specs.SystemViews.{SystemViews}
 use Rattle.duct_running.specs.Answered.{IsAnswer}
 use Rattle.duct_running.specs.Stored.{Bytes}
 use Rattle.duct_handle.specs.HandleView.{HandleView}
+use Rattle.duct_tasks.specs.declared.lines.LinesError.{LinesError}
+use Rattle.duct_tasks.specs.declared.lines.LinesError.TheVariants as lines
+use Rattle.duct_shell.specs.declared.failure.Cause.{Cause}
+use Rattle.duct_shell.specs.declared.failure.Cause.TheVariants as cause
 
--- the error is a fault of this kind
-abbrev pub IsFault : Kind → Error → Type 0
-IsFault kind e = (fault : Fault) × (e ≡ error.System fault) × (fault.kind ≡ kind)
+-- the cause is an error of the library, and this holds of it
+abbrev pub IsRunAnd : Cause → (Error → Type 0) → Type 0
+IsRunAnd (cause.Run e) holds = holds e
+IsRunAnd (cause.Io e) holds = ⊥
+IsRunAnd (cause.Variable e) holds = ⊥
+IsRunAnd (cause.Failed run) holds = ⊥
+IsRunAnd (cause.Late late) holds = ⊥
+IsRunAnd cause.NoJob holds = ⊥
 
--- the kind of the `io::Error` that a failure with this error becomes: that of its fault, or of
--- the same meaning
-abbrev pub io_kind : Error → ErrorKind
-io_kind (error.System fault) = name_of fault.kind
-io_kind (error.Hook fault) = name_of fault.kind
-io_kind error.NotUtf8 = kind.InvalidData
-io_kind error.Memory = kind.OutOfMemory
-io_kind other = kind.Other
+-- the kind of the `io::Error` that a failure with this cause becomes: that of its fault or of its
+-- `io::Error`, or of the same meaning
+abbrev pub io_kind : Cause → ErrorKind
+io_kind (cause.Run (error.System fault)) = name_of fault.kind
+io_kind (cause.Run (error.Hook fault)) = name_of fault.kind
+io_kind (cause.Run error.NotUtf8) = kind.InvalidData
+io_kind (cause.Run error.Memory) = kind.OutOfMemory
+io_kind (cause.Run other) = kind.Other
+io_kind (cause.Io e) = error_kind e
+io_kind (cause.Variable variable.NotPresent) = kind.NotFound
+io_kind (cause.Variable variable.NotUnicode) = kind.InvalidData
+io_kind (cause.Variable variable.OutOfMemory) = kind.OutOfMemory
+io_kind (cause.Failed run) = kind.Other
+io_kind (cause.Late late) = kind.TimedOut
+io_kind cause.NoJob = kind.InvalidInput
+
+-- the cause for which lines are not handed on any more
+abbrev pub lines_cause : LinesError → Cause
+lines_cause (lines.Run e) = cause.Run e
+lines_cause (lines.Closure e) = cause.Io e
 
 -- the error of the library for a kind of std's
 abbrev pub error_read : ErrorKind → Error

@@ -1,7 +1,6 @@
 pub mod Calls
 pub mod Converted
-pub mod Copies
 pub mod FailedRequest
-pub mod FailedText
+pub mod Jobs
 pub mod Lines
 pub mod Wraps

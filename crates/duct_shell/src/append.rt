@@ -18,7 +18,7 @@ impl<'r, R: Processes + Files<File = File> + Env + Parents + Threads, H> Shell<
     /// `stdout_file` or `stderr_file`. What a command writes comes behind all that the file has
     /// then. The file is created if it isn't there. The journal gets no entry.
     ///
-    /// Fails with the error of the machine, and with kind `Other` where no number is left; nothing
+    /// Fails with std's error and the path, and with kind `Other` where no number is left; nothing
     /// is then open. It blocks at a FIFO until that has a reader.
     ///
     /// Example: `let log = sh.append("log")?;`, and then `sh.run(&command.stdout_file(log)?)?`
@@ -26,13 +26,13 @@ impl<'r, R: Processes + Files<File = File> + Env + Parents + Threads, H> Shell<
         ensures ok { IfOk result (λ end. (end ≡ self.old.system.next)
             × (self.new.system ≡ record self.old.system { next = self.old.system.next + 1 })) }
         ensures err { OnErr result (self.new.system ≡ self.old.system) }
-        ensures pool { self.new.pool ≡ self.old.pool }
-        ensures keeps { self.new.keeps_journal ≡ self.old.keeps_journal }
+        ensures stays { self.new ≡ record self.old { system = self.new.system } }
     {
-        let file = OpenOptions::new()
-            .append(true)
-            .create(true)
-            .open(self.rt, path)?;
-        Ok(self.system.adopt_file(file)?)
+        let mut options = OpenOptions::new();
+        options.append(true).create(true);
+        match options.open(self.rt, path) {
+            Ok(file) => Ok(self.system.adopt_file(file)?),
+            Err(error) => Err(Failure::at(self.alloc, path, error)),
+        }
     }
 }

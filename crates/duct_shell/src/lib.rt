@@ -6,8 +6,8 @@
 //! run!(sh; "make", "install")?;
 //! ```
 //!
-//! Beside it stand why a call failed (`reason`), what an expression prints, by lines or with a copy
-//! for a writer, and its handles in several threads.
+//! Beside it stand the keys of what it runs in the background, why a call failed (`reason`), what
+//! an expression prints, by lines or with a copy for a writer, and its handles in several threads.
 //!
 //! The calls of a handle and of a reader handle are traits here, with `Sync` above them: a function
 //! over `H: SharedHandle` may lend its handle to other threads, and needs no proof. Where it is
@@ -20,30 +20,30 @@
 #![tactic(auto)]
 
 mod append;
-mod capture;
+mod captured;
 mod chain;
-mod failed_run;
 mod failure;
+mod jobs;
 mod lines;
 mod request;
 mod shell;
-mod tee;
 mod threads;
 
-pub use capture::{Captured, run_captured};
 pub use chain::Chain;
-pub use failed_run::{FailedRun, last_lines};
-pub use failure::Failure;
+pub use failure::{Cause, Failure};
+pub use jobs::Job;
 pub use lines::{each_line, ended};
 pub use request::{failed_request, failed_starts, reason, request_text};
 pub use shell::Shell;
-pub use tee::Tee;
 pub use threads::{SharedHandle, SharedReader};
 
 // What a program over a shell needs of the library.
 pub use duct::{Clock, Error, ExitStatus, Expression, Handle, Output, ReaderHandle, System};
 pub use duct_base::text::{EntryText, RequestText, write_arguments};
-pub use duct_tasks::{Late, LateRead, Until};
+pub use duct_tasks::{
+    Captured, CommandStatus, FailedRun, Late, LateLines, Until, command_statuses, last_lines,
+    run_captured,
+};
 
 /// A command: `cmd!(sh; program, arg, ..)` is `sh.cmd(program, &[arg, ..])`. A trailing comma is
 /// allowed.

@@ -1,30 +1,28 @@
 //! A system with the pool, the runtime and the allocator that each call over it needs.
-ghost use Rattle.std.specs.Prelude.{◌≡◌, ◌∷◌, [], drop, length, map, false, None, Ok, Err, IfErr, IfOk, OnOk, IsOkUnless};
+ghost use Rattle.std.specs.Prelude.{◌≡◌, ◌∷◌, [], codes, drop, length, map, string_bytes, false, IfOk, IsOkUnless};
 ghost use Rattle.duct_system.specs.EntryView.{entry_view};
 ghost use Rattle.duct_system.specs.Journal.{IsCleared};
 ghost use Rattle.duct_system.specs.SpecView.{texts_of};
 ghost use Rattle.duct_system.specs.declared.error.Error.TheVariants.{Memory};
-ghost use Rattle.duct_system.specs.declared.system.Order.TheVariants.{Kill};
-ghost use Rattle.duct_status.specs.ReplyView.{answered};
-ghost use Rattle.duct_status.specs.ShapeView.{shape_view};
 ghost use Rattle.duct_start.specs.TreeView.{command};
-ghost use Rattle.duct_running.specs.Answered.{IsAnswer, IsConcluded};
-ghost use Rattle.duct_handle.specs.Finished.{AreGiven, IsMismatch};
-ghost use Rattle.duct_handle.specs.Obeyed.{IsObeyed};
 ghost use Rattle.duct.specs.Launched.{IsRead, IsRun, IsStart, draining};
 ghost use Rattle.duct.specs.TreeView.{tree_view};
-ghost use Rattle.duct_tasks.specs.Until.{IsReadUntil, IsRunUntil};
+ghost use Rattle.duct_tasks.specs.Until.{IsRunUntil};
 ghost use Rattle.duct_shell.specs.Calls.{Begins, Calls, FromNow, IsReader};
 ghost use Rattle.duct_shell.specs.FailedRequest.{Names};
+ghost use Rattle.duct_shell.specs.Jobs.{AreAllGiven};
+ghost use Rattle.duct_shell.specs.declared.failure.Cause.TheVariants as cause;
 
 use crate::failure::Failure;
+use crate::jobs::Jobs;
 use duct::{
     Clock, Entry, Error, Expression, Handle, Hook, HookBox, IntoExecutablePath, Output, Pool,
     ReaderHandle, System, cmd,
 };
 use duct_host::{Host, Parents};
+use duct_system::copy::copies_of_texts;
 use duct_system::views::Viewed;
-use duct_tasks::{Deadline, Late, LateRead, Until, read_until, run_until};
+use duct_tasks::{Deadline, Late, Until, run_until};
 use std::alloc::Global;
 use std::fs::File;
 use std::marker::PhantomData;
@@ -50,6 +48,7 @@ pub struct Shell<S: System, R, H = HookBox> {
     pub system: S,
     pub pool: Pool<S::Child>,
     pub keeps_journal: bool,
+    pub(crate) jobs: Jobs<S>,
     hooks: PhantomData<H>,
 }
 
@@ -72,6 +71,7 @@ impl<'r, R: Processes + Files<File = File> + Env + Parents + Threads + AllocGlob
         ensures system { result.system ≡ record { entries = []; added = 0; next = 1; room = 0 } }
         ensures pool { result.pool ≡ record { children = []; given = 0; reaped = 0; lost = 0 } }
         ensures keeps { result.keeps_journal ≡ false }
+        ensures jobs { result.jobs ≡ record { launched = 0; kept = [] } }
     {
         Shell::over(rt, rt.alloc(), Host::new(rt, rt.alloc()))
     }
@@ -85,6 +85,7 @@ impl<S: System, R: Drop> Shell<S, R> {
         ensures system { result.system ≡ system }
         ensures pool { result.pool ≡ record { children = []; given = 0; reaped = 0; lost = 0 } }
         ensures keeps { result.keeps_journal ≡ false }
+        ensures jobs { result.jobs ≡ record { launched = 0; kept = [] } }
     {
         Shell::with_hooks(rt, alloc, system)
     }
@@ -96,6 +97,7 @@ impl<S: System, R: Drop, H> Shell<S, R, H> {
         ensures system { result.system ≡ system }
         ensures pool { result.pool ≡ record { children = []; given = 0; reaped = 0; lost = 0 } }
         ensures keeps { result.keeps_journal ≡ false }
+        ensures jobs { result.jobs ≡ record { launched = 0; kept = [] } }
     {
         Shell {
             rt,
@@ -103,24 +105,28 @@ impl<S: System, R: Drop, H> Shell<S, R, H> {
             system,
             pool: Pool::new(alloc),
             keeps_journal: false,
+            jobs: Jobs::new(alloc),
             hooks: PhantomData,
         }
     }
 
-    /// Returns the system and the pool. Nothing is swept.
+    /// Returns the system and the pool. The jobs that are not spent are given up first, from the
+    /// last to the first: their children go to the pool. Nothing is swept.
     pub fn into_parts(self) -> (S, Pool<S::Child>)
         ensures system { result.0 ≡ self.system }
-        ensures pool { result.1 ≡ self.pool }
+        ensures pool { AreAllGiven ⟦<S as Viewed>⟧.views self.jobs.kept self.pool result.1 }
     {
         let Shell {
             rt,
             alloc: _,
             system,
-            pool,
+            mut pool,
             keeps_journal: _,
+            jobs,
             hooks: _,
         } = self;
         drop(rt);
+        jobs.give_up(&mut pool);
         (system, pool)
     }
 }
@@ -143,30 +149,53 @@ impl<S: System, R, H: Drop> Shell<S, R, H> {
         cmd(self.alloc, program, args)
     }
 
-    /// Gives up what a handle runs, as `Handle::give_up` does: its children go to the shell's pool.
-    /// Nothing is killed and nothing is waited for.
-    pub fn give_up(&mut self, handle: Handle<S>)
-        ensures given { AreGiven ⟦<S as Viewed>⟧.views handle.numbers (Unit {0}) self.old.pool
-            self.new.pool }
-        ensures system { self.new.system ≡ self.old.system }
-        ensures keeps { self.new.keeps_journal ≡ self.old.keeps_journal }
+    /// Makes a command that leads a process group of its own: `setsid`, the program and its
+    /// arguments. Where it is stopped at a limit, as a task or as a service, its whole group is: the
+    /// command and what it has started, but for what called `setsid` itself. Nothing is started.
+    ///
+    /// Fails with `Error::Memory`, and only at an allocation failure.
+    ///
+    /// Example: `sh.group("make", &["-j8"])?`
+    pub fn group<P: IntoExecutablePath>(
+        &self,
+        program: P,
+        args: &[&str],
+    ) -> Result<Expression<S::End, H>, Error>
+        ensures tree { IfOk result (λ made. tree_view made
+            ≡ command (codes "setsid" ∷ P.executable program ∷ texts_of args.now)) }
+        ensures memory { IsOkUnless result Memory }
     {
-        handle.give_up(&mut self.pool);
+        let mut texts = Vec::new(self.alloc);
+        texts.push(program.to_executable(self.alloc)?)?;
+        texts.append(&mut copies_of_texts(self.alloc, args)?)?;
+        self.leader(&texts)
+    }
+
+    // Makes a command that leads a process group of its own, of its words.
+    fn leader(&self, texts: &[String]) -> Result<Expression<S::End, H>, Error>
+        ensures tree { IfOk result (λ made. tree_view made
+            ≡ command (codes "setsid" ∷ map string_bytes texts.now)) }
+        ensures memory { IsOkUnless result Memory }
+    {
+        let mut words = Vec::new(self.alloc);
+        for text in texts {
+            words.push(text.as_str())?;
+        }
+        cmd(self.alloc, "setsid", &words)
     }
 
     /// Clears the journal.
     pub fn clear(&mut self)
         ensures cleared { IsCleared (S.journal_view self.old.system)
             (S.journal_view self.new.system) }
-        ensures pool { self.new.pool ≡ self.old.pool }
-        ensures keeps { self.new.keeps_journal ≡ self.old.keeps_journal }
+        ensures stays { self.new ≡ record self.old { system = self.new.system } }
     {
         self.system.clear_journal();
     }
 
     // Returns the failure of a call that began with so many entries, and failed with this error.
     pub(crate) fn failure(&self, entries: usize, error: Error) -> Failure
-        ensures error { result.error ≡ error }
+        ensures cause { result.cause ≡ cause.Run error }
         ensures request { Names (drop entries (S.journal_view self.now.system).entries)
             result.request }
     {
@@ -196,8 +225,9 @@ fn after(journal: &[Entry], entries: usize) -> &[Entry]
 }
 
 impl<S: System, R, H: Hook> Shell<S, R, H> {
-    /// Starts an expression as `Expression::start` does, and returns a handle of what runs, which
-    /// has to be spent: by `wait`, `kill` or `give_up`. It doesn't wait until that has ended.
+    /// Starts an expression as `Expression::start` does, and returns a handle of what runs, for
+    /// threads that share it. It has to be spent: by `handle.into_output(&sh.rt, &mut sh.pool)` or
+    /// `handle.give_up(&mut sh.pool)`. It doesn't wait until that has ended.
     ///
     /// Fails as `Expression::launch` does, and leaves the same.
     ///
@@ -206,7 +236,8 @@ impl<S: System, R, H: Hook> Shell<S, R, H> {
         ensures calls { Calls S.journal_view self.old.keeps_journal
             (IsStart ⟦<S as Viewed>⟧.views H.allows H.refuses expression.now draining)
             (self.old.system, self.old.pool) result (self.new.system, self.new.pool) }
-        ensures keeps { self.new.keeps_journal ≡ self.old.keeps_journal }
+        ensures stays { self.new
+            ≡ record self.old { system = self.new.system; pool = self.new.pool } }
     {
         let entries = begin(&mut self.system, self.keeps_journal);
         match expression.start(&mut self.system, &mut self.pool) {
@@ -232,7 +263,8 @@ impl<S: System, R: Wait + Clone + Drop, H: Hook> Shell<S, R, H> {
         ensures calls { Calls S.journal_view self.old.keeps_journal
             (IsReader ⟦<S as Viewed>⟧.views H.allows H.refuses expression.now)
             (self.old.system, self.old.pool) result (self.new.system, self.new.pool) }
-        ensures keeps { self.new.keeps_journal ≡ self.old.keeps_journal }
+        ensures stays { self.new
+            ≡ record self.old { system = self.new.system; pool = self.new.pool } }
     {
         let entries = begin(&mut self.system, self.keeps_journal);
         let rt = match self.rt.clone() {
@@ -257,7 +289,8 @@ impl<S: System, R: Wait, H: Hook> Shell<S, R, H> {
         ensures calls { Calls S.journal_view self.old.keeps_journal
             (IsRun ⟦<S as Viewed>⟧.views H.allows H.refuses expression.now)
             (self.old.system, self.old.pool) result (self.new.system, self.new.pool) }
-        ensures keeps { self.new.keeps_journal ≡ self.old.keeps_journal }
+        ensures stays { self.new
+            ≡ record self.old { system = self.new.system; pool = self.new.pool } }
     {
         let entries = begin(&mut self.system, self.keeps_journal);
         match expression.run(&self.rt, &mut self.system, &mut self.pool) {
@@ -277,7 +310,8 @@ impl<S: System, R: Wait, H: Hook> Shell<S, R, H> {
             (IsRead ⟦<S as Viewed>⟧.views H.allows H.refuses expression.now S.may_read
             S.Reader.remaining)
             (self.old.system, self.old.pool) result (self.new.system, self.new.pool) }
-        ensures keeps { self.new.keeps_journal ≡ self.old.keeps_journal }
+        ensures stays { self.new
+            ≡ record self.old { system = self.new.system; pool = self.new.pool } }
     {
         let entries = begin(&mut self.system, self.keeps_journal);
         match expression.read(&self.rt, &mut self.system, &mut self.pool) {
@@ -286,54 +320,10 @@ impl<S: System, R: Wait, H: Hook> Shell<S, R, H> {
         }
     }
 
-    /// Waits for a handle as `Handle::into_output` does: it blocks until what it runs has ended,
-    /// and returns the output.
-    ///
-    /// Fails as `Handle::into_output` does. The children are then given to the shell's pool.
-    ///
-    /// Example: `let output = sh.wait(server)?;`
-    pub fn wait(&mut self, handle: Handle<S>) -> Result<Output, Failure>
-        ensures output { IfOk result
-            (λ output. IsConcluded ⟦<S as Viewed>⟧.views (shape_view handle.shape) handle.numbers
-            (answered output.status output.stdout.items output.stderr.items)) }
-        ensures err { IfErr result (λ failure. IsAnswer ⟦<S as Viewed>⟧.views
-            (shape_view handle.shape) handle.numbers (Err failure.error)) }
-        ensures request { IfErr result (λ failure. failure.request ≡ None) }
-        ensures kept { OnOk result (self.new.pool ≡ self.old.pool) }
-        ensures given { IfErr result (λ failure. AreGiven ⟦<S as Viewed>⟧.views handle.numbers
-            (IsMismatch failure.error) self.old.pool self.new.pool) }
-        ensures system { self.new.system ≡ self.old.system }
-        ensures keeps { self.new.keeps_journal ≡ self.old.keeps_journal }
-    {
-        Ok(handle.into_output(&self.rt, &mut self.pool)?)
-    }
-
-    /// Kills what a handle runs, as `Handle::kill` does, and gives it up. It doesn't wait until
-    /// that has ended: the children are in the shell's pool, where a sweep reaps them.
-    ///
-    /// Fails as `Handle::kill` does. The handle is given up then too.
-    ///
-    /// Example: `sh.kill(server)?;`
-    pub fn kill(&mut self, handle: Handle<S>) -> Result<(), Failure>
-        ensures killed { OnOk result
-            (IsObeyed ⟦<S as Viewed>⟧.views Kill handle.numbers.children (Ok tt)) }
-        ensures failed { IfErr result (λ failure.
-            IsObeyed ⟦<S as Viewed>⟧.views Kill handle.numbers.children (Err failure.error)) }
-        ensures request { IfErr result (λ failure. failure.request ≡ None) }
-        ensures given { AreGiven ⟦<S as Viewed>⟧.views handle.numbers (Unit {0}) self.old.pool
-            self.new.pool }
-        ensures system { self.new.system ≡ self.old.system }
-        ensures keeps { self.new.keeps_journal ≡ self.old.keeps_journal }
-    {
-        let killed = handle.kill(&self.rt);
-        self.give_up(handle);
-        Ok(killed?)
-    }
-
     /// Runs an expression as `run` does, but for no longer than `limit`. Then each command that
-    /// still runs is sent signal 15, and is killed `grace` later, as `run_until` of `duct_tasks`
-    /// does it. That it was stopped is no failure but `Until::Late`; its children are then in the
-    /// shell's pool. It blocks until then.
+    /// still runs is sent signal 15, and is killed `grace` later, with its group if it leads one, as
+    /// `run_until` of `duct_tasks` does it. That it was stopped is no failure but `Until::Late`; its
+    /// children are then in the shell's pool. It blocks until then.
     ///
     /// Fails as `run` does, and leaves the same.
     ///
@@ -349,7 +339,8 @@ impl<S: System, R: Wait, H: Hook> Shell<S, R, H> {
             (FromNow (C.may_show clock.now) limit
             (IsRunUntil ⟦<S as Viewed>⟧.views H.allows H.refuses expression.now grace))
             (self.old.system, self.old.pool) result (self.new.system, self.new.pool) }
-        ensures keeps { self.new.keeps_journal ≡ self.old.keeps_journal }
+        ensures stays { self.new
+            ≡ record self.old { system = self.new.system; pool = self.new.pool } }
     {
         let entries = begin(&mut self.system, self.keeps_journal);
         let moment = clock.now().saturating_add(limit);
@@ -360,40 +351,6 @@ impl<S: System, R: Wait, H: Hook> Shell<S, R, H> {
         };
         let (system, pool) = (&mut self.system, &mut self.pool);
         match run_until(&self.rt, system, pool, expression, &deadline) {
-            Ok(until) => Ok(until),
-            Err(error) => Err(self.failure(entries, error)),
-        }
-    }
-
-    /// Reads what an expression prints, as `read` does, but for no longer than `limit`, after which
-    /// it is stopped as `run_for` does it. `Until::Late` then has what was printed, as `read_until`
-    /// of `duct_tasks` returns it: only where stdout's pipe came to EOF. It blocks until then.
-    ///
-    /// Fails as `read_until` does, and leaves the same.
-    ///
-    /// Example: `sh.read_for(&clock, Duration::from_secs(5), grace, &cmd!(sh; "fetch")?)?`
-    pub fn read_for<C: Clock>(
-        &mut self,
-        clock: &C,
-        limit: Duration,
-        grace: Duration,
-        expression: &Expression<S::End, H>,
-    ) -> Result<Until<String, LateRead>, Failure>
-        ensures calls { Calls S.journal_view self.old.keeps_journal
-            (FromNow (C.may_show clock.now) limit
-            (IsReadUntil ⟦<S as Viewed>⟧.views H.allows H.refuses expression.now grace))
-            (self.old.system, self.old.pool) result (self.new.system, self.new.pool) }
-        ensures keeps { self.new.keeps_journal ≡ self.old.keeps_journal }
-    {
-        let entries = begin(&mut self.system, self.keeps_journal);
-        let moment = clock.now().saturating_add(limit);
-        let deadline = Deadline {
-            clock,
-            moment,
-            grace,
-        };
-        let (system, pool) = (&mut self.system, &mut self.pool);
-        match read_until(&self.rt, system, pool, expression, &deadline) {
             Ok(until) => Ok(until),
             Err(error) => Err(self.failure(entries, error)),
         }

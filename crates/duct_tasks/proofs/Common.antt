@@ -17,11 +17,11 @@ pub use Rattle.duct_run.specs.Requested.{PoolGets}
 pub use Rattle.duct_running.specs.NumbersView.{numbers_of, NumbersView}
 pub use Rattle.duct_running.specs.Polled.{Polled, ReturnsOutcome, Stays, StaysSame, AllAsked, PolledOnce}
 pub use Rattle.duct_running.specs.Stored.{Bytes}
-pub use Rattle.duct.specs.Launched.{LaunchRefused, Launched, Runs, added_between, draining, drains_error, drains_output, StartKind, IsStart, IsRun, Fails}
+pub use Rattle.duct.specs.Launched.{LaunchRefused, Launched, Runs, added_between, draining, drains_error, drains_output, MadeBy, StartKind, IsStart, IsRun, Fails}
 pub use Rattle.duct.specs.TreeView.{tree_view}
 pub use Rattle.duct.specs.declared.expression.Expression.{Expression}
 pub use Rattle.duct_tasks.specs.Turns.{EndsWith, IsHalted, RanAs, SignalsTasks, Stops, StopsIf, TaskTries, Turned, WasHalted, WereSignalled, InSuccession, IsIdle, IsLast, IsWhy, Keeps, StoppedIf, Turn, WhyAfter, gives, is_stopped, last_of, Advances, Began, Goes, InTurn, AreEnds, GoesOn, RanAll, failed_of, Attempts, FailsFor, FnReturnsAtPairMut, HadOrders, HasOrders, running_of}
-pub use Rattle.duct_tasks.specs.Until.{End, HasPassed, RunsAlike, HasNotEnded, IsStopped, LaunchStopped, MayRun, ReadsFirst, WasStopped, seen, IsSignalled, AreSignalled, last_read}
+pub use Rattle.duct_tasks.specs.Until.{End, HasPassed, RunsAlike, HasNotEnded, IsStopped, LaunchStopped, MayRun, MayStillRun, WasStopped, seen, IsSignalled, AreSignalled}
 pub use Rattle.duct_tasks.specs.declared.keeper.Why.TheVariants.{GaveUp, Stopped}
 pub use Rattle.duct_tasks.specs.declared.many.Tasks.{Tasks}
 pub use Rattle.duct_tasks.specs.declared.task.Task.{Task}

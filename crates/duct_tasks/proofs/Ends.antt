@@ -1,5 +1,5 @@
 -- How all tasks ended, once none runs.
-use Rattle.std.proofs.Common.{◌≡◌, ◌+◌, ◌<◌, ◌≤◌, ◌⊎◌, refl, ap, sym, ◌∙◌, subst, inl, inr, arith, ℕ, suc, Bool, true, false, List, [], ◌∷◌, ◌++◌, Contains, length, map, sum_by, Ok, Err, Some}
+use Rattle.std.proofs.Common.{◌≡◌, ◌+◌, ◌<◌, ◌≤◌, ◌⊎◌, refl, ap, sym, ◌∙◌, subst, inl, inr, arith, ℕ, suc, Bool, true, false, List, [], ◌∷◌, ◌++◌, Contains, length, map, sum_by, Ok, Err}
 use Rattle.duct_tasks.proofs.Common.{append-nil, append_assoc, length-map, map-append, sum_by-cons, PoolView, counted, Error, Allows, Refuses, RunningView, SystemViews, Bytes, Expression, End, AreEnds, EndsWith, Goes, GoesOn, InTurn, RanAll, Turn, Turned, failed_of, Tasks, Task, Ended}
 use Rattle.duct_tasks.specs.declared.many.AtFailure.{AtFailure}
 use Rattle.duct_tasks.specs.declared.many.AtFailure.TheVariants.{GoOn, Wait, Stop}

@@ -5,10 +5,10 @@ use Rattle.std.proofs.lemmas.List.Folds.{concat-append}
 use Rattle.std.proofs.KnownBytes.{Consumes-trans}
 use Rattle.std.specs.Io.KnownBytes.{Consumes}
 use Rattle.std.specs.List.{FoldsTo, concat}
-use Rattle.std.specs.Io.BufRead.{drop_through, first_line, take_through}
+use Rattle.std.specs.Io.BufRead.{drop_through, take_through}
 use Rattle.duct_system.specs.declared.system.Side.{Side}
 use Rattle.duct_system.specs.declared.system.Side.TheVariants as side
-use Rattle.duct_tasks.specs.Streams.{AreLines, AreWhole, HandsBoth, HandsRest, HandsWhole, IsPart, IsWhole, Takes, Turns, texts_of, without_end}
+use Rattle.duct_tasks.specs.Streams.{AreLines, AreWhole, HandsBoth, HandsRest, HandsWhole, IsPart, IsWhole, Takes, Told, ToldBoth, Turns, texts_of, without_end}
 
 pub part_append : (xs ys : List ℕ) → IsPart xs → IsPart ys → IsPart (xs ++ ys)
 part_append [] ys p q = q
@@ -223,30 +223,12 @@ module _ {F : Type 0} (Step : F → Side × List ℕ → F → Type 0) where
         (drop-drop more told' bytes' ∙ ap (λ (n : ℕ). drop n bytes') (omega arith)) part;
   }
 
-  -- what was handed on of a stream: whole lines, which are so many bytes, and no more than a part of
-  -- a line is left
-  pub record Told (stream : Side) (handed : List (Side × List ℕ)) (bytes : List ℕ) (told : ℕ)
-      : Type 0 where
-    pub lines : List (List ℕ)
-    pub whole : AreWhole lines
-    pub takes : take told bytes ≡ concat lines
-    pub texts : texts_of stream handed ≡ map without_end lines
-    pub rest : IsPart (drop told bytes)
-
-  -- lines of both streams were handed on
-  pub record ToldBoth (f g : F) (out : List ℕ) (told : ℕ) (err : List ℕ) (told_err : ℕ)
-      : Type 0 where
-    pub handed : List (Side × List ℕ)
-    pub steps : FoldsTo Step f handed g
-    pub output : Told side.Out handed out told
-    pub error : Told side.Err handed err told_err
-
   -- after a turn of the stream
   told_more : (stream : Side) (handed more : List (Side × List ℕ)) (lines : List (List ℕ))
-      (bytes bytes' : List ℕ) (told told' : ℕ) (taken : List ℕ) → Told stream handed bytes told
+      (bytes bytes' : List ℕ) (told told' : ℕ) (taken : List ℕ) → Told Step stream handed bytes told
       → take told' bytes' ≡ take told bytes ++ taken → taken ≡ concat lines → AreWhole lines
       → (IsPart (drop told bytes) → IsPart (drop told' bytes'))
-      → texts_of stream more ≡ map without_end lines → Told stream (handed ++ more) bytes' told'
+      → texts_of stream more ≡ map without_end lines → Told Step stream (handed ++ more) bytes' told'
   told_more stream handed more lines bytes bytes' told told' taken was takes are whole rest texts =
       record {
         lines = was.lines ++ lines;
@@ -261,8 +243,8 @@ module _ {F : Type 0} (Step : F → Side × List ℕ → F → Type 0) where
 
   -- lines of the other stream change nothing
   told_same : (stream : Side) (handed more : List (Side × List ℕ)) (bytes : List ℕ) (told : ℕ)
-      → Told stream handed bytes told → texts_of stream more ≡ []
-      → Told stream (handed ++ more) bytes told
+      → Told Step stream handed bytes told → texts_of stream more ≡ []
+      → Told Step stream (handed ++ more) bytes told
   told_same stream handed more bytes told was none = record {
     lines = was.lines;
     whole = was.whole;
@@ -273,7 +255,7 @@ module _ {F : Type 0} (Step : F → Side × List ℕ → F → Type 0) where
   }
 
   pub none_told : (f : F) (out err : List ℕ) (told told_err : ℕ) → out ≡ [] → err ≡ []
-      → told ≡ 0 → told_err ≡ 0 → ToldBoth f f out told err told_err
+      → told ≡ 0 → told_err ≡ 0 → ToldBoth Step f f out told err told_err
   none_told f out err told told_err no_out no_err zero_out zero_err = record {
     handed = [];
     steps = refl;
@@ -281,7 +263,7 @@ module _ {F : Type 0} (Step : F → Side × List ℕ → F → Type 0) where
     error = none_of side.Err err told_err no_err zero_err;
   } where
     none_of : (stream : Side) (bytes : List ℕ) (told : ℕ) → bytes ≡ [] → told ≡ 0
-        → Told stream [] bytes told
+        → Told Step stream [] bytes told
     none_of stream bytes told is nothing = record {
       lines = [];
       whole = tt;
@@ -291,8 +273,8 @@ module _ {F : Type 0} (Step : F → Side × List ℕ → F → Type 0) where
     }
 
   pub output_told : (f g h : F) (out out' err : List ℕ) (told told' told_err : ℕ)
-      → ToldBoth f g out told err told_err → Turns Step side.Out out told g out' told' h
-      → ToldBoth f h out' told' err told_err
+      → ToldBoth Step f g out told err told_err → Turns Step side.Out out told g out' told' h
+      → ToldBoth Step f h out' told' err told_err
   output_told f g h out out' err told told' told_err was turn =
       let lines = turn.hands.0 in
       let more = map (λ (line : List ℕ). (side.Out, without_end line)) lines in
@@ -305,8 +287,8 @@ module _ {F : Type 0} (Step : F → Side × List ℕ → F → Type 0) where
       }
 
   pub error_told : (f g h : F) (out err err' : List ℕ) (told told_err told_err' : ℕ)
-      → ToldBoth f g out told err told_err → Turns Step side.Err err told_err g err' told_err' h
-      → ToldBoth f h out told err' told_err'
+      → ToldBoth Step f g out told err told_err → Turns Step side.Err err told_err g err' told_err' h
+      → ToldBoth Step f h out told err' told_err'
   error_told f g h out err err' told told_err told_err' was turn =
       let lines = turn.hands.0 in
       let more = map (λ (line : List ℕ). (side.Err, without_end line)) lines in
@@ -342,7 +324,7 @@ module _ {F : Type 0} (Step : F → Side × List ℕ → F → Type 0) where
 
   -- all lines of a stream
   told_all : (stream : Side) (handed : List (Side × List ℕ)) (bytes : List ℕ) (told : ℕ)
-      (texts : List (List ℕ)) → Told stream handed bytes told
+      (texts : List (List ℕ)) → Told Step stream handed bytes told
       → texts ≡ texts_of stream handed ++ last_text (drop told bytes) → AreLines bytes texts
   told_all stream handed bytes told texts was are =
       let whole : bytes ≡ concat was.lines ++ drop told bytes =
@@ -353,7 +335,7 @@ module _ {F : Type 0} (Step : F → Side × List ℕ → F → Type 0) where
       (lines_of was.lines (drop told bytes) was.whole was.rest))
 
   pub both_told : (f g h i : F) (out err : List ℕ) (told told_err : ℕ)
-      → ToldBoth f g out told err told_err → HandsRest Step side.Out g (drop told out) h
+      → ToldBoth Step f g out told err told_err → HandsRest Step side.Out g (drop told out) h
       → HandsRest Step side.Err h (drop told_err err) i → HandsBoth Step f i out err
   both_told f g h i out err told told_err was output error =
       let outs = rest_lines side.Out (drop told out) in

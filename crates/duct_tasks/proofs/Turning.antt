@@ -1,5 +1,5 @@
 -- Turns of tasks, of which one is added, or has gone on, or those that run are sent signal 15.
-use Rattle.std.proofs.Common.{◌≡◌, ◌+◌, ◌<◌, refl, ap, sym, ◌∙◌, subst, inl, inr, arith, ℕ, zero, suc, Bool, true, false, if◌then◌else◌, List, [], ◌∷◌, ◌++◌, length, Ok, Err, Some, None, get_or, set, Option}
+use Rattle.std.proofs.Common.{◌≡◌, ◌+◌, ◌<◌, refl, ap, sym, ◌∙◌, subst, inl, inr, arith, ℕ, zero, suc, Bool, true, false, if◌then◌else◌, List, [], ◌∷◌, ◌++◌, length, Ok, Err, Some, get_or, set}
 use Rattle.duct_tasks.proofs.Common.{AllZip, length-map, PoolView, counted, Error, ShapeView, Allows, Refuses, RunningView, SystemViews, NumbersView, numbers_of, Bytes, LaunchRefused, Launched, Runs, added_between, draining, drains_error, drains_output, tree_view, Expression, Advances, Began, EndsWith, Goes, InTurn, IsLast, Stops, Turn, Turned, gives, End, RunsAlike, Task, Running, Ended}
 use Rattle.duct_base.proofs.Sieving.{counted_more}
 use Rattle.duct_system.specs.Started.{children_in}

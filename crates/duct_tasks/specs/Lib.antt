@@ -1,5 +1,9 @@
+pub mod Captures
+pub mod FailedText
 pub mod Groups
+pub mod LinesRun
 pub mod Pauses
+pub mod Statuses
+pub mod Streams
 pub mod Turns
 pub mod Until
-pub mod Streams

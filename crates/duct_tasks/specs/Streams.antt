@@ -1,15 +1,17 @@
 -- What streams give that are read on threads, and the lines that are handed on of them.
-use Rattle.std.specs.Prelude.{ℕ, ◌≡◌, ◌<◌, ◌≤◌, ◌≢◌, ◌++◌, ◌==◌, List, [], ◌∷◌, length, map, take, drop, false, IfSome, Ok, Err, if◌then◌else◌, Some, None, Option, Result}
+use Rattle.std.specs.Prelude.{ℕ, ◌≡◌, ◌<◌, ◌≤◌, ◌≢◌, ◌++◌, ◌==◌, Bool, List, [], ◌∷◌, length, map, take, drop, true, false, IfSome, Ok, Err, if◌then◌else◌, None, Option, Result}
 use Rattle.std.specs.Borrow.{Bor}
 use Rattle.std.specs.Fn.{Called, Mut}
 use Rattle.std.specs.Io.{ReadsAtMost}
-use Rattle.std.specs.Io.BufRead.{drop_through, ends_with_byte, first_line, strip_last, take_through}
+use Rattle.std.specs.Io.BufRead.{drop_through, ends_with_byte, first_line, strip_last}
 use Rattle.std.specs.Io.KnownBytes.{Consumes, IsAtEnd, ReadConsumes}
 use Rattle.std.specs.List.{FoldsTo, concat}
 use Rattle.std.specs.declared.io.Error.{Error}
 use Rattle.duct_system.specs.declared.system.Side.{Side}
 use Rattle.duct_system.specs.declared.system.Side.TheVariants as side
+use Rattle.duct_tasks.specs.declared.lines.BothLines.{BothLines}
 use Rattle.duct_tasks.specs.declared.lines.Lines.{Lines}
+use Rattle.duct_tasks.specs.declared.lines.LinesError.{LinesError}
 use Rattle.duct_tasks.specs.declared.stream.Stream.{Stream}
 
 -- what a read left, into a buffer that has room
@@ -118,3 +120,59 @@ module _ {F : Type 0} (Step : F → Side × List ℕ → F → Type 0) where
     pub handed : FoldsTo Step f lines f'
     pub output : AreLines out (texts_of side.Out lines)
     pub error : AreLines err (texts_of side.Err lines)
+
+  -- what was handed on of a stream: whole lines, which are so many bytes, and no more than a part of
+  -- a line is left
+  pub record Told (stream : Side) (handed : List (Side × List ℕ)) (bytes : List ℕ) (told : ℕ)
+      : Type 0 where
+    pub lines : List (List ℕ)
+    pub whole : AreWhole lines
+    pub takes : take told bytes ≡ concat lines
+    pub texts : texts_of stream handed ≡ map without_end lines
+    pub rest : IsPart (drop told bytes)
+
+  -- lines of both streams were handed on
+  pub record ToldBoth (f g : F) (out : List ℕ) (told : ℕ) (err : List ℕ) (told_err : ℕ)
+      : Type 0 where
+    pub handed : List (Side × List ℕ)
+    pub steps : FoldsTo Step f handed g
+    pub output : Told side.Out handed out told
+    pub error : Told side.Err handed err told_err
+
+  -- the lines of both streams were handed on, as far as they were read: all of them, or else those
+  -- that are whole
+  abbrev pub HandsTo : Bool → F → F → List ℕ → ℕ → List ℕ → ℕ → Type 0
+  HandsTo true f f' out told err told_err = HandsBoth f f' out err
+  HandsTo false f f' out told err told_err = ToldBoth f f' out told err told_err
+
+  -- the same, unless no more is read because of an error
+  abbrev pub HandsUnless : Result Bool LinesError → F → F → List ℕ → ℕ → List ℕ → ℕ → Type 0
+  HandsUnless (Ok over) f f' out told err told_err = HandsTo over f f' out told err told_err
+  HandsUnless (Err error) f f' out told err told_err = Unit {0}
+
+module _ {R : Type 0} (remaining : R → Option (List ℕ)) where
+  -- both streams are read, and to EOF if that is said
+  pub record ReadsBoth (both : BothLines R) : Type 0 where
+    pub output : IsLines remaining both.out
+    pub error : IsLines remaining both.err
+    pub ends : both.over ≡ Ok true → (both.out.is_open ≡ false) × (both.err.is_open ≡ false)
+
+  -- these bytes are what both readers gave, all of it if this says so, and their lines were handed
+  -- on
+  pub record GivesLines {F : Type 0} (Step : F → Side × List ℕ → F → Type 0) (over : Bool)
+      (f f' : F) (out err : R) (stdout stderr : List ℕ) : Type 0 where
+    pub out_left : R
+    pub err_left : R
+    pub told : ℕ
+    pub told_err : ℕ
+    pub output : Consumes (remaining out) (remaining out_left) stdout
+    pub error : Consumes (remaining err) (remaining err_left) stderr
+    pub handed : HandsTo Step over f f' stdout told stderr told_err
+    pub ends : over ≡ true → IsAtEnd (remaining out_left) × IsAtEnd (remaining err_left)
+
+module _ {R F : Type 0} (calls : Mut F (Side × (Bor (List ℕ) × Unit {0})) (Result (Unit {0}) Error))
+  where
+    -- the lines of both streams were handed on as far as they were read, unless that has failed
+    abbrev pub Handed : BothLines R → F → F → Type 0
+    Handed both f f' = HandsUnless (Hands calls (Ok tt)) both.over f f' both.out.bytes.items
+        both.out.told both.err.bytes.items both.err.told

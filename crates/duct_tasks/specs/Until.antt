@@ -1,5 +1,5 @@
 -- What an expression that runs or is read until a moment of a clock returns, and what it leaves.
-use Rattle.std.specs.Prelude.{ℕ, ◌<◌, ◌≤◌, ◌⊎◌, Ok, Err, None, Some, pos, Bool, true, false, List, [], ◌∷◌, ◌≡◌, All, map, is_some, IfNone, IfSome, ◌+◌, min, string_bytes, IsUtf8, Option, Result, String}
+use Rattle.std.specs.Prelude.{ℕ, ◌<◌, ◌≤◌, ◌⊎◌, Ok, Err, None, Some, pos, Bool, true, false, List, [], ◌∷◌, ◌≡◌, map, is_some, IfNone, IfSome, ◌+◌, min, Option, Result}
 use Rattle.std.specs.Duration.{as_nanos, max_nanos}
 use Rattle.std.specs.List.{AllZip}
 use Rattle.std.specs.declared.time.Duration.{Duration}
@@ -14,17 +14,15 @@ use Rattle.duct_system.specs.declared.system.Kind.TheVariants.{OutOfMemory}
 use Rattle.duct_system.specs.declared.system.Order.{Order}
 use Rattle.duct_system.specs.declared.system.Order.TheVariants.{Kill, Signal}
 use Rattle.duct_system.specs.EntryView.{EntryView}
-use Rattle.duct_system.specs.Started.{drains_in}
 use Rattle.duct_system.specs.declared.system.Output.{Output}
-use Rattle.duct_system.specs.declared.system.Said.{Said}
-use Rattle.duct_system.specs.declared.system.Said.TheVariants as said
 use Rattle.duct_status.specs.ShapeView.{ShapeView, shape_view}
 use Rattle.duct_start.specs.Running.{RunningView}
 use Rattle.duct_start.specs.Chain.{Allows, Refuses}
 use Rattle.duct_start.specs.Left.{TakesIn, pool_view}
 use Rattle.duct_start.specs.ShapeOfTree.{shape_of_tree}
-use Rattle.duct_start.specs.TreeView.{TreeView, around, stdout_capture}
+use Rattle.duct_start.specs.TreeView.{TreeView}
 use Rattle.duct_system.specs.SystemViews.{SystemViews}
+use Rattle.duct_run.specs.Requested.{PoolGets}
 use Rattle.duct_running.specs.Allowed.{OneIsRunning, OneRuns, StoresAllowed}
 use Rattle.duct_running.specs.Answered.{IsConcludedPoll}
 use Rattle.duct_running.specs.NumbersView.{NumbersView, numbers_of}
@@ -32,15 +30,13 @@ use Rattle.duct_running.specs.Stored.{Bytes}
 use Rattle.duct_running.specs.Polled.{ReturnsOutcome, PolledOnce, StaysSame}
 use Rattle.duct_handle.specs.Started.{AreNumbers}
 use Rattle.duct_handle.specs.Waited.{at_end}
-use Rattle.duct_handle.specs.ReadsText.{trimmed}
-use Rattle.duct.specs.Launched.{MadeBy, Returns, Runs, StartKind, added_between, draining, drains_error, drains_output, Fails, Launched, RunFailed}
+use Rattle.duct.specs.Launched.{MadeBy, Returns, Runs, StartKind, draining, drains_error, drains_output, Fails, Launched, RunFailed}
 use Rattle.duct.specs.TreeView.{tree_view}
 use Rattle.duct.specs.declared.expression.Expression.{Expression}
 use Rattle.duct_tasks.specs.Groups.{IsSent, OrdersAll, SignalsGroups, Tries, processes_of}
 use Rattle.duct_tasks.specs.declared.late.Late.{Late}
 use Rattle.duct_tasks.specs.declared.late.Until.{Until}
 use Rattle.duct_tasks.specs.declared.late.Until.TheVariants as until
-use Rattle.duct_tasks.specs.declared.late.LateRead.{LateRead}
 
 -- the clock may show this many nanoseconds or more
 abbrev pub HasReached : (Duration → Type 0) → ℕ → Type 0
@@ -163,15 +159,20 @@ module _ {S E C F D : Type 0} (views : SystemViews S E C F D (Unit {0}) Bytes) w
       Returns views output kind tree added
       × (HasShownLess shows nanos ⊎ EndedAtOnce kind tree added)
 
-  -- these are the children and workers of the entries, as the last poll left them; one of them
-  -- might still run when the moment was seen; they were sent signal 15 after that and before the
-  -- last poll, or their groups were; and how it ended is the outcome of what they store
-  pub record IsLate {H : Type 0} (late : Late) (tries : Tries) (polled : RunningView C F D)
-      (kind : StartKind) (tree : TreeView E H) (added : List EntryView) : Type 0 where
+  -- one of what was launched might still run when the moment was seen
+  abbrev pub MayStillRun : {H : Type 0} → RunningView C F D → MadeBy E H
+  MayStillRun polled kind tree added = MayRun (shape_of_tree tree) (numbers_of views polled)
+
+  -- these are the children and workers of the entries, as the last poll left them, and this holds
+  -- of them; they were sent signal 15 before the last poll, or their groups were; and how it ended
+  -- is the outcome of what they store
+  pub record IsLate {H : Type 0} (holds : RunningView C F D → MadeBy E H) (late : Late)
+      (tries : Tries) (polled : RunningView C F D) (kind : StartKind) (tree : TreeView E H)
+      (added : List EntryView) : Type 0 where
     pub shape_is : shape_view polled.shape ≡ shape_of_tree tree
     pub are_numbers : AreNumbers (drains_output kind tree) (drains_error kind tree) added
         (numbers_of views polled)
-    pub may_run : MayRun (shape_of_tree tree) (numbers_of views polled)
+    pub held : holds polled kind tree added
     pub lapsed : HasLapsed tries late.ended polled
 
   module _ {H : Type 0} (allows : Allows H) (refuses : Refuses H) where
@@ -192,19 +193,28 @@ module _ {S E C F D : Type 0} (views : SystemViews S E C F D (Unit {0}) Bytes) w
           killed
       pub kept : RunsAlike polled killed
 
-    -- a start that succeeded and was late: its requests are its plan. After them, the groups of the
-    -- commands that lead one were sent signal 15, and after the last poll signal 9; and this runs
-    -- it then: each child that had not ended at that poll was killed once, with the result, unless
-    -- its group was
-    pub record WasStopped (root : Expression E H) (before : S × PoolView C) (late : Late)
-        (after : S × PoolView C) (running : RunningView C F D) : Type 0 where
+    -- the same, and then the pool was given all children of what ran
+    pub record StopsAndGives (late : Late) (before : S × PoolView C) (running : RunningView C F D)
+        (after : S × PoolView C) : Type 0 where
+      pub left : RunningView C F D
+      pub ended : PoolView C
+      pub stopped : IsStopped late before running (after.0, ended) left
+      pub gets : PoolGets views left.children ended after.1
+
+    -- a start that succeeded and was stopped: its requests are its plan. After them, the groups of
+    -- the commands that lead one were sent signal 15, and after the last poll signal 9; and this
+    -- runs it then: each child that had not ended at that poll was killed once, with the result,
+    -- unless its group was
+    pub record WasStopped (kind : StartKind) (holds : RunningView C F D → MadeBy E H)
+        (root : Expression E H) (before : S × PoolView C) (late : Late) (after : S × PoolView C)
+        (running : RunningView C F D) : Type 0 where
       pub started : S × PoolView C
       pub between : S × PoolView C
       pub tries : Tries
       pub kills : Tries
       pub polled : RunningView C F D
-      pub launched : Launched views allows draining root before.0 started.0 before.1 started.1
-          (IsLate late tries polled)
+      pub launched : Launched views allows kind root before.0 started.0 before.1 started.1
+          (IsLate holds late tries polled)
       pub signals : SignalsGroups views allows refuses (pos 15) (shape_of_tree (tree_view root))
           (processes_of views polled) tries started between
       pub signals_kill : SignalsGroups views allows refuses (pos 9)
@@ -214,32 +224,13 @@ module _ {S E C F D : Type 0} (views : SystemViews S E C F D (Unit {0}) Bytes) w
       pub alike : RunsAlike polled running
 
     -- the same, and then the pool was given all its children
-    pub record LaunchStopped (root : Expression E H) (before after : S × PoolView C) (late : Late)
-        : Type 0 where
+    pub record LaunchStopped (kind : StartKind) (holds : RunningView C F D → MadeBy E H)
+        (root : Expression E H) (before after : S × PoolView C) (late : Late) : Type 0 where
       pub running : RunningView C F D
       pub ended : PoolView C
-      pub stopped : WasStopped root before late (after.0, ended) running
+      pub stopped : WasStopped kind holds root before late (after.0, ended) running
       pub pool : TakesIn views.may_answer (map views.child running.children)
           (pool_view views.child ended) (pool_view views.child after.1)
-
--- the last moment of a read, in nanoseconds: a second after the grace, or the greatest moment
-abbrev pub last_read : ℕ → ℕ → ℕ
-last_read moment grace = min (min (moment + grace) max_nanos + 1_000_000_000) max_nanos
-
--- an expression inside one more capture of stdout
-abbrev pub IsCaptured : {E H : Type 0} → Expression E H → Expression E H → Type 0
-IsCaptured root captured = tree_view captured ≡ around stdout_capture (tree_view root)
-
--- the worker that is the first of these returns the bytes; where there are none, the clock showed
--- this many nanoseconds or more, or the worker failed, or there is none
-abbrev pub ReadsFirst : {T : Type 0} → (ℕ → Said T → Type 0) → (Duration → Type 0) → ℕ → List ℕ
-    → Option T → Type 0
-ReadsFirst says shows nanos workers read =
-    IfSome read (λ bytes. (number : ℕ) × (others : List ℕ) × (workers ≡ number ∷ others)
-    × says number (said.Done bytes))
-    × IfNone read ((workers ≡ []) ⊎ HasReached shows nanos
-    ⊎ ((number : ℕ) × (others : List ℕ) × (workers ≡ number ∷ others)
-    × (fault : Fault) × says number (said.Fault fault)))
 
 -- an expression was stopped not before this moment, in nanoseconds, and killed not before the end
 -- of the grace
@@ -259,44 +250,6 @@ module _ {S E C F D : Type 0} (views : SystemViews S E C F D (Unit {0}) Bytes) {
   IsRunUntil before (Ok (until.Done output)) after = Launched views allows draining root before.0
       after.0 before.1 after.1 (ReturnsInTime views shows moment output)
   IsRunUntil before (Ok (until.Late late)) after = IsStoppedAt grace shows moment late
-      × LaunchStopped views allows refuses root before after late
+      × LaunchStopped views allows refuses draining (MayStillRun views) root before after late
   IsRunUntil before (Err e) after = RunFailed views allows refuses draining root before.0 after.0
       before.1 after.1 (Fails views) e
-
-  -- the captured expression ended in time, and this holds of the bytes that it wrote to stdout
-  pub record Captured (before after : S × PoolView C) (holds : List ℕ → Type 0) : Type 0 where
-    pub captured : Expression E H
-    pub is_captured : IsCaptured root captured
-    pub output : Output
-    pub launched : Launched views allows draining captured before.0 after.0 before.1 after.1
-        (ReturnsInTime views shows moment output)
-    pub bytes : holds output.stdout.items
-
-  -- the captured expression was stopped; the bytes that were read a second beyond the grace, if
-  -- there are any, are those of the first capture worker of the entries, which is that of stdout
-  pub record ReadStopped (before after : S × PoolView C) (late : LateRead) : Type 0 where
-    pub captured : Expression E H
-    pub is_captured : IsCaptured root captured
-    pub stopped : LaunchStopped views allows refuses captured before after late.late
-    pub read : ReadsFirst views.drain_says shows (last_read moment (as_nanos grace))
-        (drains_in (added_between views before.0 stopped.stopped.started.0)) late.read
-
-  -- there was no memory for the capture, and nothing was started; or the captured expression failed
-  -- to start or to run; or it ran, and the bytes without the line ends at their end are not UTF-8
-  abbrev pub ReadFailed : S × PoolView C → S × PoolView C → Error → Type 0
-  ReadFailed before after e =
-      ((e ≡ error.Memory) × (after.0 ≡ before.0) × (after.1 ≡ before.1))
-      ⊎ ((captured : Expression E H) × IsCaptured root captured
-      × RunFailed views allows refuses draining captured before.0 after.0 before.1 after.1
-      (Fails views) e)
-      ⊎ ((e ≡ error.NotUtf8) × Captured before after (λ bytes. IsUtf8 (trimmed bytes) → ⊥))
-
-  -- what a read until this moment does: the captured expression ended in time, and the text is what
-  -- it wrote to stdout, without the line ends at its end; or it was stopped, or failed
-  abbrev pub IsReadUntil : S × PoolView C → Result (Until (String Global) LateRead) Error
-      → S × PoolView C → Type 0
-  IsReadUntil before (Ok (until.Done text)) after =
-      Captured before after (λ bytes. string_bytes text ≡ trimmed bytes)
-  IsReadUntil before (Ok (until.Late late)) after =
-      IsStoppedAt grace shows moment late.late × ReadStopped before after late
-  IsReadUntil before (Err e) after = ReadFailed before after e

@@ -3,8 +3,11 @@
 //! the lines of two streams, while both are read.
 #![tactic(auto)]
 
+mod attended;
+mod capture;
 mod crew;
 mod expression;
+mod failed_run;
 mod grace;
 mod group;
 mod keeper;
@@ -13,19 +16,22 @@ mod lines;
 mod many;
 mod once;
 mod pauses;
-mod read;
 mod repeated;
 mod run;
+mod statuses;
 mod stop;
 mod stream;
 mod task;
 mod watch;
 
+pub use attended::{run_lines, run_lines_until};
+pub use capture::{Captured, run_captured};
 pub use expression::{run_attempts, start_attempts};
+pub use failed_run::{FailedRun, last_lines};
 pub use keeper::{Kept, Restarts, Service, Why, keep};
-pub use late::{Deadline, Late, LateRead, TERMINATE, Until};
-pub use lines::{Lines, LinesError, read_both};
+pub use late::{Deadline, Late, LateLines, TERMINATE, Until};
+pub use lines::LinesError;
 pub use many::{AtFailure, Progress, Tasks, run_all};
-pub use read::read_until;
 pub use repeated::{Retries, attempts};
 pub use run::run_until;
+pub use statuses::{CommandStatus, command_statuses};

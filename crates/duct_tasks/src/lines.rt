@@ -1,34 +1,56 @@
 //! The lines of two streams, handed on while both are read.
-ghost use Rattle.std.specs.Prelude.{ℕ, ◌≡◌, ◌≤◌, ◌++◌, false, [], List, IfErr, IfOk, IfNone, IfSome, OnOk, Ok, Err, take, drop, length, vec_len};
+ghost use Rattle.std.specs.Prelude.{ℕ, ◌≡◌, ◌≤◌, ◌++◌, Bool, true, false, [], List, IfErr, IfOk, IfNone, IfSome, IsErr, IsOk, OnErr, OnOk, Ok, Err, take, drop, length, vec_len};
+ghost use Rattle.std.specs.Duration.{as_nanos};
 ghost use Rattle.std.specs.Io.BufRead.{take_through};
 ghost use Rattle.std.specs.Io.KnownBytes.{Consumes, IsAtEnd};
-ghost use Rattle.duct_tasks.specs.Streams.{Hands, HandsBoth, HandsRest, HandsWhole, IsLines, IsPart, IsWhole, Turns, without_end};
+ghost use Rattle.duct_system.specs.declared.error.Error.TheVariants.{Memory};
+ghost use Rattle.duct_tasks.specs.Streams.{Handed, Hands, HandsRest, HandsTo, HandsWhole, IsLines, IsPart, IsWhole, ReadsBoth, Turns, without_end};
+ghost use Rattle.duct_tasks.specs.Until.{HasReached};
+ghost use Rattle.duct_tasks.specs.declared.lines.LinesError.TheVariants as lines;
 
 use crate::stream::Stream;
+use crate::watch::is_over;
 use duct_base::error::Error;
 use duct_base::pause::Pause;
-use duct_base::system::{Fault, Said, Side};
-use std::alloc::Global;
+use duct_base::system::{Clock, Fault, Said, Side};
+use std::alloc::{AllocError, Global};
 use std::io;
 use std::io::Read;
 use std::snapshot::Snapshot;
 use std::sync::Wait;
 use std::thread::Threads;
+use std::time::Duration;
 
-/// Why lines are not handed on any more.
-#[derive(Drop)]
+/// Why a run whose lines are handed on has failed.
+#[derive(Debug, Drop)]
 pub enum LinesError {
-    /// A read failed, or memory ran out.
-    Read(Error),
+    /// It could not be started, a read or a wait failed, or memory ran out.
+    Run(Error),
     /// The closure that got a line failed with this.
     Closure(io::Error),
 }
 
-/// A stream that is read while the caller goes on, with all bytes that it gave so far. Each read is
-/// made on a thread of its own, and the next one begins once the bytes of the one before were taken:
-/// a writer that finds its pipe full waits for the caller.
+impl From<Error> for LinesError {
+    ghost from_gives = { λ error made. made ≡ lines.Run error };
+
+    fn from(error: Error) -> LinesError {
+        LinesError::Run(error)
+    }
+}
+
+impl From<AllocError> for LinesError {
+    ghost from_gives = { λ _ made. made ≡ lines.Run Memory };
+
+    fn from(_error: AllocError) -> LinesError {
+        LinesError::Run(Error::Memory)
+    }
+}
+
+// A stream that is read while the caller goes on, with all bytes that it gave so far. Each read is
+// made on a thread of its own, and the next one begins once the bytes of the one before were taken:
+// a writer that finds its pipe full waits for the caller.
 #[derive(Drop)]
-pub struct Lines<R: Read> {
+struct Lines<R: Read> {
     stream: Stream<R>,
     bytes: Vec<u8>,
     told: usize,
@@ -92,13 +114,8 @@ fn hand_on<F: FnMut(Side, &[u8]) -> io::Result<()>>(
 }
 
 impl<R: Read + Send + Drop + 'static> Lines<R> {
-    /// Begins to read this reader, on a thread of its own. Nothing is handed on yet.
-    ///
-    /// Fails with `OutOfMemory` at an allocation failure, and with `Other` where no thread can be
-    /// started. The reader is then dropped, and nothing was read.
-    ///
-    /// Example: `let mut errors = Lines::new(&rt, alloc, stderr)?;`
-    pub fn new<T: Threads>(rt: &T, alloc: Global, reader: R) -> Result<Lines<R>, Fault>
+    // Begins to read this reader, on a thread of its own. Nothing is handed on yet.
+    fn new<T: Threads>(rt: &T, alloc: Global, reader: R) -> Result<Lines<R>, Fault>
         ensures lines { IfOk result (IsLines R.remaining) }
         ensures reader { IfOk result (λ lines. lines.first.value ≡ reader) }
         ensures none { IfOk result (λ lines. lines.bytes.items ≡ []) }
@@ -113,8 +130,8 @@ impl<R: Read + Send + Drop + 'static> Lines<R> {
         })
     }
 
-    /// Returns all bytes that were read. A read that goes on ends by itself.
-    pub fn into_bytes(self) -> Vec<u8>
+    // Returns all bytes that were read. A read that goes on ends by itself.
+    fn into_bytes(self) -> Vec<u8>
         ensures { result.items ≡ self.bytes.items }
     {
         let Lines {
@@ -171,7 +188,7 @@ impl<R: Read + Send + Drop + 'static> Lines<R> {
         match self.take(rt, alloc) {
             Ok(true) => {}
             Ok(false) => return Ok(()),
-            Err(error) => return Err(LinesError::Read(error)),
+            Err(error) => return Err(LinesError::Run(error)),
         }
         match hand_on(side, &self.bytes[self.told..], each) {
             Ok(told) => {
@@ -205,35 +222,38 @@ impl<R: Read + Send + Drop + 'static> Lines<R> {
     }
 }
 
-/// Reads both streams to EOF, and hands on each line once it is read, with its stream and without
-/// its `\n` or `\r\n`. The lines of one stream come in their order; between those of both the order
-/// is that in which they are found. A last line without a newline comes at EOF. It blocks while a
-/// process may write to one of the streams.
-///
-/// Fails at once with an error of the closure, with that of a read, and with `Error::Memory`. What
-/// was handed on before stands, and both streams have their bytes so far.
-///
-/// Example: `read_both(&rt, alloc, &mut out, &mut err, &mut |stream, line| told.add(stream, line))?`
-pub fn read_both<R: Read + Send + Drop + 'static, F: FnMut(Side, &[u8]) -> io::Result<()>>(
+// Reads both streams to EOF, or until it is to stop, which is asked after each round that doesn't
+// find EOF. Hands on each line once it is read. The lines of one stream come in their order; between
+// those of both the order is that in which they are found. A last line without a newline comes at
+// EOF. Returns whether both came to EOF.
+fn read_both<
+    R: Read + Send + Drop + 'static,
+    G: Fn() -> bool,
+    F: FnMut(Side, &[u8]) -> io::Result<()>,
+>(
     rt: &(impl Threads + Wait),
     alloc: Global,
     out: &mut Lines<R>,
     err: &mut Lines<R>,
+    stop: &G,
     each: &mut F,
-) -> Result<(), LinesError>
+) -> Result<bool, LinesError>
+    requires asked { G.IsAlwaysCallable stop.now }
     requires callable { F.IsAlwaysCallable each.old }
     requires output { IsLines R.remaining out.old }
     requires error { IsLines R.remaining err.old }
-    requires no_output { out.old.bytes.items ≡ [] }
-    requires no_error { err.old.bytes.items ≡ [] }
-    ensures ok { OnOk result (HandsBoth (Hands F.FnMut (Ok tt)) each.old each.new
-        out.new.bytes.items err.new.bytes.items) }
+    ensures callable { F.IsAlwaysCallable each.new }
+    ensures ok { IfOk result (λ over. (f : F) → HandsTo (Hands F.FnMut (Ok tt)) false f each.old
+        out.old.bytes.items out.old.told err.old.bytes.items err.old.told
+        → HandsTo (Hands F.FnMut (Ok tt)) over f each.new
+        out.new.bytes.items out.new.told err.new.bytes.items err.new.told) }
     ensures output { IsLines R.remaining out.new }
     ensures error { IsLines R.remaining err.new }
     ensures first_output { out.new.first.value ≡ out.old.first.value }
     ensures first_error { err.new.first.value ≡ err.old.first.value }
-    ensures output_ends { OnOk result (out.new.is_open ≡ false) }
-    ensures error_ends { OnOk result (err.new.is_open ≡ false) }
+    ensures output_ends { IfOk result (λ over. over ≡ true → out.new.is_open ≡ false) }
+    ensures error_ends { IfOk result (λ over. over ≡ true → err.new.is_open ≡ false) }
+    ensures says { IfOk result (λ over. over ≡ false → G.post stop.now true) }
 {
     let mut pauses = Pause::new();
     for _ in rt.forever() {
@@ -242,7 +262,11 @@ pub fn read_both<R: Read + Send + Drop + 'static, F: FnMut(Side, &[u8]) -> io::R
         err.turn(rt, alloc, Side::Err, each)?;
         if !out.is_open && !err.is_open {
             out.hand_on_rest(Side::Out, each)?;
-            return err.hand_on_rest(Side::Err, each);
+            err.hand_on_rest(Side::Err, each)?;
+            return Ok(true);
+        }
+        if stop() {
+            return Ok(false);
         }
         if before < out.bytes.len().saturating_add(err.bytes.len()) {
             pauses = Pause::new();
@@ -250,4 +274,96 @@ pub fn read_both<R: Read + Send + Drop + 'static, F: FnMut(Side, &[u8]) -> io::R
         pauses.rest(rt);
     }
     unreachable!()
+}
+
+/// Both streams of what runs.
+#[derive(Drop)]
+pub(crate) struct BothLines<R: Read> {
+    out: Lines<R>,
+    err: Lines<R>,
+    // Whether both were read to EOF, or why they aren't read any more.
+    over: Result<bool, LinesError>,
+}
+
+impl<R: Read + Send + Drop + 'static> BothLines<R> {
+    /// Begins to read both streams, each on threads of its own. Nothing is handed on yet.
+    ///
+    /// Fails with `OutOfMemory` at an allocation failure, and with `Other` where no thread can be
+    /// started. The readers are then dropped.
+    pub fn new<T: Threads>(rt: &T, alloc: Global, out: R, err: R) -> Result<BothLines<R>, Fault>
+        ensures both { IfOk result (ReadsBoth R.remaining) }
+        ensures out { IfOk result (λ both. both.out.first.value ≡ out) }
+        ensures err { IfOk result (λ both. both.err.first.value ≡ err) }
+        ensures none { IfOk result (λ both. both.over ≡ Ok false) }
+        ensures no_output { IfOk result (λ both. both.out.bytes.items ≡ []) }
+        ensures no_error { IfOk result (λ both. both.err.bytes.items ≡ []) }
+    {
+        Ok(BothLines {
+            out: Lines::new(rt, alloc, out)?,
+            err: Lines::new(rt, alloc, err)?,
+            over: Ok(false),
+        })
+    }
+
+    /// Reads both streams, as far as they come by this moment, and hands on their lines. It blocks
+    /// until EOF, until the clock shows the moment, or until a read or the closure fails, after
+    /// which nothing is read any more.
+    pub fn read<C: Clock, F: FnMut(Side, &[u8]) -> io::Result<()>>(
+        &mut self,
+        rt: &(impl Threads + Wait),
+        alloc: Global,
+        clock: &C,
+        moment: Duration,
+        each: &mut F,
+    )
+        requires callable { F.IsAlwaysCallable each.old }
+        requires both { ReadsBoth R.remaining self.old }
+        ensures callable { F.IsAlwaysCallable each.new }
+        ensures both { ReadsBoth R.remaining self.new }
+        ensures out { self.new.out.first.value ≡ self.old.out.first.value }
+        ensures err { self.new.err.first.value ≡ self.old.err.first.value }
+        ensures hands { (f : F) → Handed F.FnMut self.old f each.old
+            → Handed F.FnMut self.new f each.new }
+        ensures failed { IsErr self.old.over → IsErr self.new.over }
+        ensures late { self.new.over ≡ Ok false
+            → HasReached (C.may_show clock.now) (as_nanos moment) }
+    {
+        if let Ok(false) = self.over {
+            let stop = ||
+                ensures { result ≡ true → HasReached (C.may_show clock.entry.now) (as_nanos moment) }
+            { is_over(clock, moment) };
+            self.over = read_both(rt, alloc, &mut self.out, &mut self.err, &stop, each);
+        }
+    }
+
+    /// Returns whether both streams were read to EOF.
+    pub fn are_over(&self) -> bool
+        ensures yes { result ≡ true → self.now.over ≡ Ok true }
+        ensures no { result ≡ false → IsOk self.now.over → self.now.over ≡ Ok false }
+    {
+        matches!(self.over, Ok(true))
+    }
+
+    /// Returns whether a read or the closure has failed.
+    pub fn have_failed(&self) -> bool
+        ensures yes { result ≡ true → IsErr self.now.over }
+        ensures no { result ≡ false → IsOk self.now.over }
+    {
+        matches!(self.over, Err(_))
+    }
+
+    /// Returns all bytes that were read of stdout and of stderr, or why reading failed. A read that
+    /// goes on ends by itself.
+    pub fn into_bytes(self) -> Result<(Vec<u8>, Vec<u8>), LinesError>
+        ensures ok { IfOk result (λ bytes. (bytes.0.items ≡ self.out.bytes.items)
+            × (bytes.1.items ≡ self.err.bytes.items)) }
+        ensures over { OnOk result ((over : Bool) × (self.over ≡ Ok over)) }
+        ensures err { OnErr result (IsErr self.over) }
+    {
+        let BothLines { out, err, over } = self;
+        match over {
+            Ok(_) => Ok((out.into_bytes(), err.into_bytes())),
+            Err(error) => Err(error),
+        }
+    }
 }

@@ -8,7 +8,7 @@ ghost use Rattle.duct_running.specs.Polled.{ReturnsOutcome};
 ghost use Rattle.duct_handle.specs.Finished.{RanUntil, RanUntilGiven, StoresError, StoresReply};
 ghost use Rattle.duct_handle.specs.Waited.{at_end};
 ghost use Rattle.duct.specs.Launched.{Fails, Launched, RunFailed, draining};
-ghost use Rattle.duct_tasks.specs.Until.{HasReached, HasShownLess, IfDone, IfLate, IsRunUntil, ReturnsInTime, UnlessEnded, WasStopped};
+ghost use Rattle.duct_tasks.specs.Until.{HasReached, HasShownLess, IfDone, IfLate, IsRunUntil, MayStillRun, ReturnsInTime, UnlessEnded, WasStopped};
 
 use crate::grace::Lapsed;
 use crate::late::{Deadline, Late, Until};
@@ -70,8 +70,8 @@ pub(crate) fn launch_until<E: Drop, H: Hook, S: System<End = E>, C: Clock>(
         (ReturnsInTime ⟦<S as Viewed>⟧.views (C.may_show deadline.now.clock.now)
         (as_nanos deadline.now.moment) output))) }
     ensures stopped { IfOk result (λ until. IfLate until (λ stopped. WasStopped
-        ⟦<S as Viewed>⟧.views H.allows H.refuses expression.now (sys.old, pool.old) stopped.0
-        (sys.new, pool.new) stopped.1.running)) }
+        ⟦<S as Viewed>⟧.views H.allows H.refuses draining (MayStillRun ⟦<S as Viewed>⟧.views)
+        expression.now (sys.old, pool.old) stopped.0 (sys.new, pool.new) stopped.1.running)) }
     ensures late { IfOk result (λ until. IfLate until (λ stopped.
         HasReached (C.may_show deadline.now.clock.now) (as_nanos deadline.now.moment))) }
     ensures grace { IfOk result (λ until. IfLate until (λ stopped. UnlessEnded stopped.0.ended

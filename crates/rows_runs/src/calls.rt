@@ -7,7 +7,7 @@ use crate::tasks::{keep_running, run_tasks};
 use crate::texts::{push_done, push_error, push_polled, push_read, push_run};
 use duct::{Clock, Error, Handle, System};
 use duct_script::is_balanced;
-use duct_tasks::{Deadline, Until, read_until, run_until};
+use duct_tasks::{Deadline, Until, run_until};
 use rows_table::{
     Table, TableError, Tree, Writing, children_started, first_word, limits, push_journal,
     push_pool, push_trace, written_with,
@@ -70,7 +70,7 @@ impl<'t, 'r, R: Wait + Threads, M: Machine> Calls<'t, 'r, R, M> {
     }
 
     /// Makes the calls of a line. Notes if the pool was given another number of children than were
-    /// started, or was given one although the call keeps them. A run or a read with a limit, `tasks`
+    /// started, or was given one although the call keeps them. A run with a limit, `tasks`
     /// and `keep` may also start lines of a shell, whose children they keep.
     fn call(&mut self, key: &str, text: &str) -> Result<(), TableError> {
         self.answers.clear();
@@ -79,7 +79,7 @@ impl<'t, 'r, R: Wait + Threads, M: Machine> Calls<'t, 'r, R, M> {
         self.machine.mark(0);
         let made = match key {
             "run" => self.run(text),
-            "read" => self.read(text),
+            "read" if text.is_empty() => self.read(),
             "tasks" | "keep" => self.tasks(key, text),
             "perform" => self.run_program(text),
             _ => self.start(key, text),
@@ -90,7 +90,7 @@ impl<'t, 'r, R: Wait + Threads, M: Machine> Calls<'t, 'r, R, M> {
         let owed = if self.is_kept { 0 } else { started };
         let is_right = match key {
             "tasks" | "keep" => given <= started,
-            "run" | "read" if !text.is_empty() && !self.is_kept => given <= started,
+            "run" if !text.is_empty() && !self.is_kept => given <= started,
             _ => given == owed,
         };
         self.is_lost = self.is_lost || !is_right;
@@ -242,28 +242,13 @@ impl<'t, 'r, R: Wait + Threads, M: Machine> Calls<'t, 'r, R, M> {
         Ok(push_run(&mut self.answers, &ran)?)
     }
 
-    /// Reads the expression of the row, for as long as its limits say if there are any.
-    fn read(&mut self, text: &str) -> Result<(), TableError> {
-        let limits = limits(text)?;
+    /// Reads the expression of the row.
+    fn read(&mut self) -> Result<(), TableError> {
         let tree = self.tree()?;
         let rt = self.rt;
-        let (system, pool, clock) = self.machine.stage();
-        let read = match limits {
-            None => tree.read(rt, system, pool).map(Until::Done),
-            Some((length, grace)) => {
-                let moment = clock.now().saturating_add(length);
-                let deadline = Deadline {
-                    clock,
-                    moment,
-                    grace,
-                };
-                read_until(rt, system, pool, &tree, &deadline)
-            }
-        };
-        self.is_kept = match &read {
-            Ok(until) => matches!(until, Until::Done(_)),
-            Err(error) => limits.is_some() && *error == Error::NotUtf8,
-        };
+        let (system, pool, _) = self.machine.stage();
+        let read = tree.read(rt, system, pool);
+        self.is_kept = read.is_ok();
         Ok(push_read(&mut self.answers, &read)?)
     }
 

@@ -1,6 +1,6 @@
 //! Texts for the results of calls.
 use duct::{Error, Output, ReaderHandle, System};
-use duct_tasks::{Late, LateRead, Until};
+use duct_tasks::{Late, Until};
 use rows_table::{Bytes, LONG};
 use std::alloc::{AllocError, Global};
 use std::io::Read;
@@ -44,22 +44,11 @@ pub fn push_run(
     }
 }
 
-/// Adds a text that was read, in quotes, or of a long one its length, or how the read was late, or
-/// the text of an error.
-pub fn push_read(
-    text: &mut String,
-    read: &Result<Until<String, LateRead>, Error>,
-) -> Result<(), AllocError> {
+/// Adds a text that was read, in quotes, or of a long one its length, or the text of an error.
+pub fn push_read(text: &mut String, read: &Result<String, Error>) -> Result<(), AllocError> {
     match read {
-        Ok(Until::Done(read)) if read.len() > LONG => write!(text, "{}. ", Bytes(read.as_bytes())),
-        Ok(Until::Done(read)) => write!(text, "{read:?}. "),
-        Ok(Until::Late(late)) => {
-            push_late(text, &late.late)?;
-            match &late.read {
-                Some(bytes) => write!(text, "read {}. ", Bytes(bytes.as_slice())),
-                None => text.push_str("nothing read. "),
-            }
-        }
+        Ok(read) if read.len() > LONG => write!(text, "{}. ", Bytes(read.as_bytes())),
+        Ok(read) => write!(text, "{read:?}. "),
         Err(error) => push_error(text, error),
     }
 }

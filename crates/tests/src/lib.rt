@@ -3,6 +3,8 @@
 #![tactic(auto)]
 
 #[cfg(test)]
+mod groups;
+#[cfg(test)]
 mod machine;
 #[cfg(test)]
 mod memory;
@@ -10,6 +12,8 @@ mod memory;
 mod readers;
 #[cfg(test)]
 mod starts;
+#[cfg(test)]
+mod statuses;
 #[cfg(test)]
 mod threads;
 #[cfg(test)]

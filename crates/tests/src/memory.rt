@@ -1,17 +1,19 @@
 //! A test of allocation failures: whichever single allocation of the process fails, the results are
 //! the same as with ample memory, or the fault `OutOfMemory`. After that fault a file is as it was,
-//! a child still runs, and no descriptor stays open. So if the Nth allocation of the process fails,
-//! the variable `SPEND` chooses which one of the test's calls that is.
+//! a child still runs, no descriptor stays open, and the pool has what a shell launched. So if the
+//! Nth allocation of the process fails, the variable `SPEND` chooses which one of the test's calls
+//! that is.
 use duct::Error;
 use duct_base::spec::{CommandSpec, Port, spec_of};
 use duct_base::system::{Child, Fault, Stdio, System};
 use duct_host::Host;
-use rows_table::{Real, is_memory};
+use duct_shell::{Cause, Failure, Shell};
+use rows_table::{Real, children_started, is_memory};
 use std::alloc::{AllocError, Global};
 use std::collections::BTreeMap;
 use std::os::fd::AsRawFd;
 use std::rt::Files;
-use std::sync::Arc;
+use std::sync::{Arc, Wait};
 use std::{env, fs, io};
 
 /// Makes as many allocations as the variable `SPEND` says, or none without it. Each is freed at
@@ -94,6 +96,29 @@ fn spawned<R: Real>(rt: &R) -> Result<bool, Error> {
     }
 }
 
+/// Launches a job of a shell and waits for it. Returns whether it succeeds. Fails with the error of
+/// either if the pool then has each child that was started, and returns false if it hasn't.
+fn launched<R: Real + Wait>(rt: &R) -> Result<bool, Error> {
+    let mut sh = Shell::over(rt.clone()?, rt.alloc(), Host::new(rt.clone()?, rt.alloc()));
+    let command = sh.cmd("true", &[])?;
+    let ran = match sh.launch(&command) {
+        Ok(job) => sh.wait(job),
+        Err(failure) => Err(failure),
+    };
+    let (host, pool) = sh.into_parts();
+    let is_given = pool.given() == children_started(host.journal());
+    match ran {
+        Ok(output) => Ok(output.status.success() && pool.given() == 0),
+        Err(failure) => {
+            let Failure { cause, request: _ } = failure;
+            match cause {
+                Cause::Run(error) if is_given => Err(error),
+                _ => Ok(false),
+            }
+        }
+    }
+}
+
 /// Whether all is as it should be, or a call failed with an allocation failure.
 fn is_right(made: Result<bool, Error>) -> bool {
     match made {
@@ -102,20 +127,26 @@ fn is_right(made: Result<bool, Error>) -> bool {
     }
 }
 
-/// Makes a create, a kill and a spawn, after as many allocations as `SPEND` says. Returns whether
-/// each is as it should be or failed with an allocation failure. Stops at one that isn't.
-fn are_right<R: Real>(rt: &R) -> bool {
+/// Makes a create, a kill, a spawn and a launch, after as many allocations as `SPEND` says. Returns
+/// whether each is as it should be or failed with an allocation failure. Stops at one that isn't.
+fn are_right<R: Real + Wait>(rt: &R) -> bool {
     spend(rt);
-    is_right(created(rt, "created")) && is_right(killed(rt)) && is_right(spawned(rt))
+    is_right(created(rt, "created"))
+        && is_right(killed(rt))
+        && is_right(spawned(rt))
+        && is_right(launched(rt))
 }
 
 /// The same, but none may fail.
-fn are_made<R: Real>(rt: &R) -> bool {
+fn are_made<R: Real + Wait>(rt: &R) -> bool {
     spend(rt);
-    created(rt, "created") == Ok(true) && killed(rt) == Ok(true) && spawned(rt) == Ok(true)
+    created(rt, "created") == Ok(true)
+        && killed(rt) == Ok(true)
+        && spawned(rt) == Ok(true)
+        && launched(rt) == Ok(true)
 }
 
-/// Checks a create, a kill and a spawn.
+/// Checks a create, a kill, a spawn and a launch.
 #[test]
 fn memory_of_requests(rt: HostRuntime) {
     assert!(rt; are_right(&rt));

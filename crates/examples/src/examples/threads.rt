@@ -45,7 +45,7 @@ fn a_late_command_is_killed(rt: HostRuntime) -> Result<(), Fail> {
     let mut sh = Shell::new(&rt);
     let handle = sh.start(&sh.cmd("sleep", &["20"])?)?;
     let ended = wait_or_kill(&&rt, &handle, Duration::from_millis(200));
-    sh.give_up(handle);
+    handle.give_up(&mut sh.pool);
     let told = format!(in sh.alloc; "{ended:?}")?;
     let wanted =
         "Some(Checked(\"command [\\\"sleep\\\", \\\"20\\\"] exited with code <signal 9>\"))";

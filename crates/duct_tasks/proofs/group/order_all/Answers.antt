@@ -1,4 +1,4 @@
-use Rattle.std.specs.Prelude.{◌-◌, List, [], is_some, slice_get, Some}
+use Rattle.std.specs.Prelude.{◌-◌, [], is_some, slice_get, Some}
 use Rattle.std.specs.Result.{result_and}
 use Rattle.std.proofs.Common.{◌≡◌, ◌∙◌, ◌∷◌, ap, arith, length, map, refl, subst, suc, sym}
 use Rattle.duct_running.specs.Ordered.{OrderAnswers}

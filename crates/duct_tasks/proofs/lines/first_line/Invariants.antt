@@ -1,5 +1,5 @@
 -- No newline was found so far.
-use Rattle.std.proofs.Common.{◌≡◌, ◌≤◌, length, take}
+use Rattle.std.proofs.Common.{take}
 use Rattle.duct_tasks.specs.Streams.{IsPart}
 use Rattle.duct_tasks.proofs.lines.first_line.Given as goal
 

@@ -1,8 +1,7 @@
--- The lines so far were handed on.
+-- The lines that were handed on so far, behind those before.
 use Rattle.std.proofs.Common.{◌≡◌, Ok}
 use denote.Param.Always.{always_mut}
-use Rattle.duct_tasks.specs.Streams.{Hands, IsLines}
-use Rattle.duct_tasks.proofs.Lining.{ToldBoth}
+use Rattle.duct_tasks.specs.Streams.{Hands, IsLines, ToldBoth}
 use Rattle.duct_tasks.proofs.lines.read_both.Given as goal
 
 abbrev pub invariant-loop : goal.invariant-loop
@@ -13,5 +12,7 @@ invariant-loop g l =
     × IsLines g.R.Read.remaining l.err
     × (l.out.first.value ≡ l.initial.out.first.value)
     × (l.err.first.value ≡ l.initial.err.first.value)
-    × ToldBoth (Hands g.F.FnMut (Ok tt)) l.initial.each l.each l.out.bytes.items l.out.told
-    l.err.bytes.items l.err.told
+    × ((f : _) → ToldBoth (Hands g.F.FnMut (Ok tt)) f l.initial.each l.initial.out.bytes.items
+    l.initial.out.told l.initial.err.bytes.items l.initial.err.told
+    → ToldBoth (Hands g.F.FnMut (Ok tt)) f l.each l.out.bytes.items l.out.told
+    l.err.bytes.items l.err.told)

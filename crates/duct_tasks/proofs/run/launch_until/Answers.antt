@@ -2,7 +2,7 @@ use Rattle.std.proofs.Common.{◌≡◌, inl, inr, refl, []}
 use Rattle.duct_tasks.proofs.Common.{All-map, err_from_is_err_and, views_of, Fails, draining}
 use Rattle.duct_handle.specs.Finished.{StoresError}
 use Rattle.duct.proofs.Finished.{ran_tree, wait_failed}
-use Rattle.duct_tasks.proofs.Ending.{was_stopped}
+use Rattle.duct_tasks.proofs.Ending.{was_late}
 use Rattle.duct_tasks.proofs.Staying.{alike, stays_on}
 use Rattle.duct_tasks.proofs.run.launch_until.Goals as goal
 
@@ -69,7 +69,7 @@ returns-in-Err-clause-failed g c =
 pub returns-in-None-clause-stopped : goal.returns-in-None-clause-stopped
 returns-in-None-clause-stopped g c =
     let views = views_of g.S.System g.E.Numbered g.S.Child.Child g.S.Feed.Job g.S.Drain.Job in
-    was_stopped views g.H.Hook.allows g.H.Hook.refuses c.args.expression.now c.stop.result.0
+    was_late views g.H.Hook.allows g.H.Hook.refuses c.args.expression.now c.stop.result.0
     (c.args.sys.now, c.args.pool.now) (c.launch.new.sys, c.launch.new.pool)
     (c.stop.new.sys, c.stop.new.pool) c.in_ok-running.running c.watch.new.running
     c.stop.result.1.running c.in_ok-running.ensures.launched

@@ -25,7 +25,7 @@ returns-in-Late g c =
         running = c.in-Late.lapsed.running;
         ended = c.launch_until.new.pool;
         stopped = rw c.in-Late.is at c.in_ok-output.ensures.stopped;
-        pool = takes_stopped views g.H.Hook.allows g.H.Hook.refuses c.args.expression.now
-            c.in-Late.late c.in-Late.lapsed.running c.launch_until.new.pool c.give_up.new.pool gets;
+        pool = takes_stopped views c.in-Late.lapsed.running c.launch_until.new.pool
+            c.give_up.new.pool gets;
       },
     )

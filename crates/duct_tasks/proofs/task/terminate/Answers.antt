@@ -1,6 +1,6 @@
-use Rattle.std.specs.Prelude.{map, pos, []}
+use Rattle.std.specs.Prelude.{map, []}
 use Rattle.std.proofs.Common.{◌∙◌, ◌∷◌, ap, false, true, refl, subst, sym}
-use Rattle.duct_tasks.proofs.Common.{Signal, views_of, Advances, AreSignalled, NumbersView, Running, ShapeView, TaskTries, shape_view}
+use Rattle.duct_tasks.proofs.Common.{views_of, Advances, AreSignalled, NumbersView, Running, ShapeView, TaskTries, shape_view}
 use Rattle.duct_tasks.proofs.Signalled.{all_sent}
 use Rattle.duct_tasks.specs.Groups.{Tries, leaders, processes_of}
 use Rattle.duct_tasks.proofs.task.terminate.Goals as goal

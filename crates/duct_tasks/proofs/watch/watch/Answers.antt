@@ -1,4 +1,4 @@
-use Rattle.std.proofs.Common.{◌≡◌, ◌∙◌, false, true, inl, inr, refl, subst}
+use Rattle.std.proofs.Common.{◌≡◌, ◌∙◌, false, inl, inr, refl, subst}
 use Rattle.duct_tasks.proofs.Common.{views_of, PolledOnce}
 use Rattle.duct_tasks.proofs.Signalled.{processes_left, signals_left}
 use Rattle.duct_tasks.proofs.Staying.{stays_on, stays_same}

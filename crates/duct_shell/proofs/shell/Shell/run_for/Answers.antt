@@ -12,7 +12,7 @@ returns-in-Err-clause-calls g c = (
   c.begin-entries.new.system,
   c.begin-entries.ensures.begins,
   (
-    record { now = _; shown = c.now.ensures; moment = _; counted = c.saturating_add-moment.ensures; done = rw (c.failure.ensures.error) c.in-Err.ensures },
+    rw c.failure.ensures.cause (record { now = _; shown = c.now.ensures; moment = _; counted = c.saturating_add-moment.ensures; done = c.in-Err.ensures }),
     rw (← c.begin-entries.ensures.entries) c.failure.ensures.request,
   ),
 )
