@@ -7,10 +7,11 @@ ghost use Rattle.duct_shell.specs.Wraps.{Joins, Wraps, tree_of_result};
 
 use duct::{Error, Expression};
 
-/// The builders of an expression, over the result of the one before: an error passes through, so
-/// that one `?` ends a chain. Each does what the builder of `Expression` with its name does.
+/// The builders of pipes and of redirections, over the result of the one before: an error passes
+/// through, so that one `?` ends a chain. Each does what the builder of `Expression` with its name
+/// does.
 ///
-/// Example: `cmd!(sh; "make")?.env("V", "1").dir("src").stderr_null()?`
+/// Example: `cmd!(sh; "sort").pipe(cmd!(sh; "uniq")).stdin_path("in").stdout_capture()?`
 pub trait Chain<E, H>: Sized {
     /// The tree that it is the result of, or the error.
     ghost made_of: { Self → Result (TreeView E H) ErrorView };
@@ -79,30 +80,6 @@ pub trait Chain<E, H>: Sized {
     /// Stdout and stderr are exchanged.
     fn stdout_stderr_swap(self) -> Result<Expression<E, H>, Error>
         ensures { Wraps (made_of self) stdout_stderr_swap result };
-
-    /// The commands start in this folder.
-    fn dir(self, path: &str) -> Result<Expression<E, H>, Error>
-        ensures { Wraps (made_of self) (dir path.now) result };
-
-    /// The commands have this variable.
-    fn env(self, name: &str, value: &str) -> Result<Expression<E, H>, Error>
-        ensures { Wraps (made_of self) (env name.now value.now) result };
-
-    /// The commands don't have this variable.
-    fn env_remove(self, name: &str) -> Result<Expression<E, H>, Error>
-        ensures { Wraps (made_of self) (env_remove name.now) result };
-
-    /// The commands have only these variables.
-    fn full_env(self, pairs: &[(&str, &str)]) -> Result<Expression<E, H>, Error>
-        ensures { Wraps (made_of self) (full_env (last_values (pairs_of pairs.now))) result };
-
-    /// A failure of this expression is no error.
-    fn unchecked(self) -> Result<Expression<E, H>, Error>
-        ensures { Wraps (made_of self) unchecked result };
-
-    /// The hook changes the spec of each command before it is started.
-    fn before_spawn(self, hook: H, ends: Vec<E>) -> Result<Expression<E, H>, Error>
-        ensures { Wraps (made_of self) (before_spawn hook ends.items) result };
 }
 
 impl<E: Drop, H: Drop> Chain<E, H> for Result<Expression<E, H>, Error> {
@@ -171,6 +148,42 @@ impl<E: Drop, H: Drop> Chain<E, H> for Result<Expression<E, H>, Error> {
     fn stdout_stderr_swap(self) -> Result<Expression<E, H>, Error> {
         self?.stdout_stderr_swap()
     }
+}
+
+/// The other builders of an expression, over the result of the one before, as in `Chain`.
+///
+/// Example: `cmd!(sh; "make").env("V", "1").dir("src")?`
+pub trait ChainSettings<E, H>: Sized {
+    /// The tree that it is the result of, or the error.
+    ghost made_of: { Self → Result (TreeView E H) ErrorView };
+
+    /// The commands start in this folder.
+    fn dir(self, path: &str) -> Result<Expression<E, H>, Error>
+        ensures { Wraps (made_of self) (dir path.now) result };
+
+    /// The commands have this variable.
+    fn env(self, name: &str, value: &str) -> Result<Expression<E, H>, Error>
+        ensures { Wraps (made_of self) (env name.now value.now) result };
+
+    /// The commands don't have this variable.
+    fn env_remove(self, name: &str) -> Result<Expression<E, H>, Error>
+        ensures { Wraps (made_of self) (env_remove name.now) result };
+
+    /// The commands have only these variables.
+    fn full_env(self, pairs: &[(&str, &str)]) -> Result<Expression<E, H>, Error>
+        ensures { Wraps (made_of self) (full_env (last_values (pairs_of pairs.now))) result };
+
+    /// A failure of this expression is no error.
+    fn unchecked(self) -> Result<Expression<E, H>, Error>
+        ensures { Wraps (made_of self) unchecked result };
+
+    /// The hook changes the spec of each command before it is started.
+    fn before_spawn(self, hook: H, ends: Vec<E>) -> Result<Expression<E, H>, Error>
+        ensures { Wraps (made_of self) (before_spawn hook ends.items) result };
+}
+
+impl<E: Drop, H: Drop> ChainSettings<E, H> for Result<Expression<E, H>, Error> {
+    ghost made_of = { tree_of_result };
 
     fn dir(self, path: &str) -> Result<Expression<E, H>, Error> {
         self?.dir(path)

@@ -29,7 +29,7 @@ mod request;
 mod shell;
 mod threads;
 
-pub use chain::Chain;
+pub use chain::{Chain, ChainSettings};
 pub use failure::{Cause, Failure};
 pub use jobs::Job;
 pub use lines::{each_line, ended};

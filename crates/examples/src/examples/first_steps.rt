@@ -1,6 +1,8 @@
 //! The first steps, as README shows them.
 use duct_host::HostClock;
-use duct_shell::{Chain, Clock, Expression, Failure, Output, Shell, System, Until, cmd, run};
+use duct_shell::{
+    Chain, ChainSettings, Clock, Expression, Failure, Output, Shell, System, Until, cmd, run,
+};
 use std::sync::Wait;
 use std::test::Fail;
 use std::time::Duration;
