@@ -1,5 +1,4 @@
 pub mod Asked
 pub mod Explaining
 pub mod Keys
-pub mod LineSteps
 pub mod Sharing

@@ -2,5 +2,4 @@ pub mod Calls
 pub mod Converted
 pub mod FailedRequest
 pub mod Jobs
-pub mod Lines
 pub mod Wraps

@@ -6,8 +6,8 @@
 //! run!(sh; "make", "install")?;
 //! ```
 //!
-//! Beside it stand the keys of what it runs in the background, why a call failed (`reason`), what
-//! an expression prints, by lines or with a copy for a writer, and its handles in several threads.
+//! Beside it stand the keys of what it runs in the background, why a call failed (`reason`), and
+//! handles in several threads.
 //!
 //! The calls of a handle and of a reader handle are traits here, with `Sync` above them: a function
 //! over `H: SharedHandle` may lend its handle to other threads, and needs no proof. Where it is
@@ -24,7 +24,6 @@ mod captured;
 mod chain;
 mod failure;
 mod jobs;
-mod lines;
 mod request;
 mod shell;
 mod threads;
@@ -32,7 +31,6 @@ mod threads;
 pub use chain::{Chain, ChainSettings};
 pub use failure::{Cause, Failure};
 pub use jobs::Job;
-pub use lines::{each_line, ended};
 pub use request::{failed_request, failed_starts, reason, request_text};
 pub use shell::Shell;
 pub use threads::{SharedHandle, SharedReader};
