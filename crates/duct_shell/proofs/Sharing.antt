@@ -1,5 +1,5 @@
 -- What a program owes that shares a handle of the machine's host with other threads: that a handle
--- may be shared, since its children, its workers and its reader may be sent to another thread.
+-- may be shared, since its children and its workers may be sent to another thread.
 use mir.Syntax.{Lifetime, Ty}
 use base.Fml.{Lft}
 use denote.Exit.{Kept}
@@ -37,8 +37,6 @@ use Rattle.duct_running.proofs.Threads.{running_send}
 use Rattle.duct_running.specs.contracts.running.Running
 use Rattle.duct_handle.proofs.Threads.{handle_sync}
 use Rattle.duct_handle.specs.contracts.handle.Handle
-use Rattle.duct_handle.proofs.ReaderThreads.{reader_handle_sync}
-use Rattle.duct_handle.specs.contracts.reader.ReaderHandle
 use Rattle.duct_host.specs.contracts.child.Child
 use Rattle.duct_host.specs.contracts.child.SeenEnding
 use Rattle.duct_host.specs.contracts.end.End
@@ -47,10 +45,6 @@ use Rattle.duct_host.specs.contracts.reader.Reader
 -- a reference to the machine's runtime
 abbrev runtime_row : Lifetime → Lft → RattleType
 runtime_row ℓ κ = ShrRef ℓ κ LibcRuntime.the_row
-
--- it may be shared
-runtime_sync : (ℓ : Lifetime) (κ : Lft) → IsSync (ShrRef ℓ κ LibcRuntime.the_row)
-runtime_sync ℓ κ = search (sendable, crosses) depth 20
 
 -- how a poll saw a child end
 seen_send : IsSend (SeenEnding.the_field).row
@@ -95,10 +89,6 @@ drain_send : IsSend drain_row
 drain_send = worker_send bytes_row bytes_shared.ghosts (search (once_lock.the_send, once_lock.the_sync, sendable, crosses) depth 40)
     (search (sendable, crosses) depth 20)
 
--- a reader of a pipe may be sent
-reader_send : IsSend Reader.the_row
-reader_send = search (sendable, crosses) depth 40
-
 -- what a program owes, as its goals name it, whatever the ghost members, over each system that has
 -- the ends, the workers and the readers of the host
 module _ (δ : Ty) (k : Kept) (S C : RattleType)
@@ -113,11 +103,6 @@ module _ (δ : Ty) (k : Kept) (S C : RattleType)
   arg_handle_sync child = param_sync 0 _ (arg_sync δ k _ (handle_sync S End.the_row C feed_row drain_row Reader.the_row s e c cn f fn d dn r
       child feed_send drain_send))
 
-  -- a reader handle, which keeps a reference to the runtime too, may be shared if a child may be sent
-  pub arg_reader_handle_sync : (ℓ : Lifetime) (κ : Lft) → IsSend C → IsSync (param 0 (arg δ k (ReaderHandle.the_row S (runtime_row ℓ κ) End.the_row C feed_row drain_row Reader.the_row s e c cn f fn d dn r)))
-  arg_reader_handle_sync ℓ κ child = param_sync 0 _ (arg_sync δ k _ (reader_handle_sync S (runtime_row ℓ κ) End.the_row C feed_row drain_row Reader.the_row s e c cn f fn d dn r
-      (runtime_sync ℓ κ) child feed_send drain_send reader_send))
-
   -- what runs may be sent if a child may
   pub arg_running_send : IsSend C → IsSend (param 0 (arg δ k (Running.the_row S End.the_row C feed_row drain_row Reader.the_row s e c cn f fn d dn r)))
   arg_running_send child = param_send 0 _ (arg_send δ k _ (running_send S End.the_row C feed_row drain_row Reader.the_row s e c cn f fn d dn r
@@ -126,9 +111,6 @@ module _ (δ : Ty) (k : Kept) (S C : RattleType)
 -- over a host whose runtime is a reference, a handle may be shared; over another system with its
 -- ends, workers and readers too, where `search` has a lemma that the children may be sent beside it
 pub ruleset main_handle_sync = (arg_handle_sync, child_send)
-
--- a reader handle may be shared
-pub ruleset main_reader_handle_sync = (arg_reader_handle_sync, child_send)
 
 -- what runs may be sent
 pub ruleset main_running_send = (arg_running_send, child_send)

@@ -9,14 +9,13 @@
 //! Beside it stand the keys of what it runs in the background, why a call failed (`reason`), and
 //! handles in several threads.
 //!
-//! The calls of a handle and of a reader handle are traits here, with `Sync` above them: a function
-//! over `H: SharedHandle` may lend its handle to other threads, and needs no proof. Where it is
-//! given a handle of a `Host`, the program owes one line of proof: `search main_handle_sync` or
-//! `search main_reader_handle_sync`, with the rule sets of this crate's `proofs/Sharing`; and
-//! `search main_running_send` where it sends a `Running` to another thread. What a call may return
-//! is a relation of the trait, and a function's own clauses cite it, as in
-//! `ensures { IfSome result (λ e. H.may_return handle.now (Err e)) }`. Of a `Handle` and of a
-//! `ReaderHandle` it is what the clause of the call of that name says.
+//! The calls of a handle are a trait here, with `Sync` above it: a function over `H: SharedHandle`
+//! may lend its handle to other threads, and needs no proof. Where it is given a handle of a
+//! `Host`, the program owes one line of proof, by a rule set of this crate's `proofs/Sharing`:
+//! `search main_handle_sync`; and `search main_running_send` where it sends a `Running` to another
+//! thread. What a call may return is a relation of the trait, and a function's own clauses cite it,
+//! as in `ensures { IfSome result (λ e. H.may_return handle.now (Err e)) }`. Of a `Handle` it is
+//! what the clause of the call of that name says.
 #![tactic(auto)]
 
 mod append;
@@ -33,7 +32,7 @@ pub use failure::{Cause, Failure};
 pub use jobs::Job;
 pub use request::{failed_request, failed_starts, reason, request_text};
 pub use shell::Shell;
-pub use threads::{SharedHandle, SharedReader};
+pub use threads::SharedHandle;
 
 // What a program over a shell needs of the library.
 pub use duct::{Clock, Error, ExitStatus, Expression, Handle, Output, ReaderHandle, System};
