@@ -1,8 +1,8 @@
 //! A test of threads that share a handle of commands on the real machine. No command sleeps for
 //! much more than 20 seconds, so that a test that loses an order fails and doesn't hang.
-use duct::{Clock, Error, ExitStatus, Expression, Handle, Output, Pool, System, cmd};
-use duct_host::{Host, HostClock};
-use duct_shell::SharedHandle;
+use duct::{Clock, Error, ExitStatus, Expression, Output, cmd};
+use duct_host::HostClock;
+use duct_shell::{SharedHandle, Shell};
 use rows_table::count_left;
 use std::alloc::Global;
 use std::sync::{Arc, Wait};
@@ -42,11 +42,7 @@ fn ending(answer: Result<Arc<Output>, Error>) -> Ending {
 
 /// The same for a result that may be that the commands still run.
 fn told(answer: Result<Option<Arc<Output>>, Error>) -> Option<Ending> {
-    match answer {
-        Ok(Some(output)) => Some(ending(Ok(output))),
-        Ok(None) => None,
-        Err(error) => Some(ending(Err(error))),
-    }
+    answer.transpose().map(ending)
 }
 
 /// Waits for a time that depends on the round, and then orders, if the round has an order, by a
@@ -135,17 +131,6 @@ fn captured_nap<E: Drop>(alloc: Global, round: u32) -> Result<Expression<E>, Err
     both.stdout_capture()?.unchecked()
 }
 
-/// Starts that command.
-fn napping<S: System>(
-    alloc: Global,
-    round: u32,
-    sys: &mut S,
-    pool: &mut Pool<S::Child>,
-) -> Result<Handle<S>, Error> {
-    let nap: Expression<S::End> = captured_nap(alloc, round)?;
-    nap.start(sys, pool)
-}
-
 /// Checks eight threads that poll, wait with and without deadlines, give orders and get ids, in many
 /// rounds that end at different moments, by themselves or by an order. All threads get the same
 /// results, and nothing is left.
@@ -153,15 +138,11 @@ fn napping<S: System>(
 fn eight_threads_are_told_the_same(rt: HostRuntime) -> Result<(), Fail> {
     let before = count_left(&rt)?;
     for round in 0..ROUNDS {
-        let (well, kept) = {
-            let mut host = Host::new(&rt, rt.alloc());
-            let mut pool = Pool::new(rt.alloc());
-            let handle = napping(rt.alloc(), round, &mut host, &mut pool)?;
-            let agree = eight_agree(&rt, rt.alloc(), &handle, round);
-            handle.give_up(&mut pool);
-            (agree, pool.len())
-        };
-        assert_eq!(rt; (well, kept), (true, 0), "{round}");
+        let mut sh = Shell::new(&rt);
+        let handle = sh.start(&captured_nap(rt.alloc(), round)?)?;
+        let agree = eight_agree(&rt, rt.alloc(), &handle, round);
+        handle.give_up(&mut sh.pool);
+        assert_eq!(rt; (agree, sh.pool.len()), (true, 0), "{round}");
     }
     assert_eq!(rt; count_left(&rt)?, before);
     Ok(())

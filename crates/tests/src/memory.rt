@@ -119,42 +119,32 @@ fn launched<R: Real + Wait>(rt: &R) -> Result<bool, Error> {
     }
 }
 
-/// Whether all is as it should be, or a call failed with an allocation failure.
-fn is_right(made: Result<bool, Error>) -> bool {
+/// Whether all is as it should be, or a call failed with an allocation failure, which it may do.
+fn is_right(made: Result<bool, Error>, may_fail: bool) -> bool {
     match made {
         Ok(is_right) => is_right,
-        Err(error) => is_memory(&error),
+        Err(error) => may_fail && is_memory(&error),
     }
 }
 
 /// Makes a create, a kill, a spawn and a launch, after as many allocations as `SPEND` says. Returns
-/// whether each is as it should be or failed with an allocation failure. Stops at one that isn't.
-fn are_right<R: Real + Wait>(rt: &R) -> bool {
+/// whether each is right. Stops at one that isn't.
+fn are_right<R: Real + Wait>(rt: &R, may_fail: bool) -> bool {
     spend(rt);
-    is_right(created(rt, "created"))
-        && is_right(killed(rt))
-        && is_right(spawned(rt))
-        && is_right(launched(rt))
+    is_right(created(rt, "created"), may_fail)
+        && is_right(killed(rt), may_fail)
+        && is_right(spawned(rt), may_fail)
+        && is_right(launched(rt), may_fail)
 }
 
-/// The same, but none may fail.
-fn are_made<R: Real + Wait>(rt: &R) -> bool {
-    spend(rt);
-    created(rt, "created") == Ok(true)
-        && killed(rt) == Ok(true)
-        && spawned(rt) == Ok(true)
-        && launched(rt) == Ok(true)
-}
-
-/// Checks a create, a kill, a spawn and a launch.
 #[test]
 fn memory_of_requests(rt: HostRuntime) {
-    assert!(rt; are_right(&rt));
+    assert!(rt; are_right(&rt, true));
 }
 
 /// Checks that none of them fails. So if the allocation that fails is one of theirs, this test
 /// fails.
 #[test]
 fn all_memory_is_there(rt: HostRuntime) {
-    assert!(rt; are_made(&rt));
+    assert!(rt; are_right(&rt, false));
 }
