@@ -1,7 +1,6 @@
-//! The table `parts`, of parts of the library that make no request, and of recordings and plans as
-//! texts (`docs/ROWS.md`).
+//! The table `parts`, of parts of the library that make no request (`docs/ROWS.md`).
 
-mod records;
+mod plans;
 mod statuses;
 mod transfers;
 mod words;
@@ -10,7 +9,7 @@ use rows_table::{Strangers, Table, TableError, Writing, first_word};
 use std::alloc::Global;
 
 /// The keys of the lines that set something up.
-const SET: &str = "shape captured events bytes expression record arguments text";
+const SET: &str = "shape captured events bytes expression arguments text";
 
 /// The table of parts.
 #[derive(Drop)]
@@ -47,9 +46,9 @@ impl<'t> Parts<'t> {
             (call @ ("fed" | "drained"), script) => transfers::push(text, self, call, script),
             ("shows", _) => self.push_shown(text, usize::MAX),
             ("first", _) => self.push_shown(text, 1),
-            ("tokens" | "meant" | "quoted" | "shell", _) => words::push(text, self, key),
-            ("requested" | "drawn" | "planned", _) => records::push_planned(text, self, key),
-            ("read" | "judged", _) => records::push(text, self, key),
+            ("tokens" | "quoted" | "shell", _) => words::push(text, self, key),
+            ("drawn", _) => plans::push_drawn(text, self),
+            ("planned", _) => plans::push_planned(text, self),
             _ => Err(TableError::Text("no such key")),
         }
     }

@@ -17,9 +17,6 @@ use std::mem;
 use std::sync::Wait;
 use std::thread::{self, Threads};
 
-/// The room for what a program writes to a stream, in bytes.
-const ROOM: usize = 4096;
-
 type Made<'r, R, M> = Started<'r, R, <M as Machine>::System>;
 
 /// The table of calls over a machine.
@@ -81,7 +78,7 @@ impl<'t, 'r, R: Wait + Threads, M: Machine> Calls<'t, 'r, R, M> {
             "run" => self.run(text),
             "read" if text.is_empty() => self.read(),
             "tasks" | "keep" => self.tasks(key, text),
-            "perform" => self.run_program(text),
+            "perform" => self.run_program(),
             _ => self.start(key, text),
         };
         let after = self.counts();
@@ -153,7 +150,7 @@ impl<'t, 'r, R: Wait + Threads, M: Machine> Calls<'t, 'r, R, M> {
                 let polled = polled(started, self.rt, &mut self.machine, call)?;
                 Ok(push_polled(answers, &polled)?)
             }
-            ("read" | "std" | "own" | "all", _) => { started.push_read(self.alloc, call, answers) }
+            ("read" | "std" | "all", _) => { started.push_read(self.alloc, call, answers) }
             _ => self.machine.call(call, started.pids(), answers),
         }
     }
@@ -252,12 +249,11 @@ impl<'t, 'r, R: Wait + Threads, M: Machine> Calls<'t, 'r, R, M> {
         Ok(push_read(&mut self.answers, &read)?)
     }
 
-    fn run_program(&mut self, text: &str) -> Result<(), TableError> {
-        let room = if text == "unwritten" { 0 } else { ROOM };
+    fn run_program(&mut self) -> Result<(), TableError> {
         let (system, _, _) = self.machine.stage();
         self.is_kept = true;
         let (rt, alloc, arguments) = (self.rt, self.alloc, self.arguments);
-        Ok(push_performed(&mut self.answers, rt, alloc, system, arguments, room)?)
+        Ok(push_performed(&mut self.answers, rt, alloc, system, arguments)?)
     }
 
     fn sweep(&mut self, text: &str) -> Result<(), TableError> {

@@ -155,21 +155,15 @@ impl<R: Real> Machine for HostMachine<R> {
     }
 }
 
-/// Returns the permissions with this name.
-fn permissions(name: &str) -> Result<Permissions, TableError> {
-    match name {
-        "rw-r--r--" => Ok(Permissions::from_mode(0o644)),
-        "rwxr-xr-x" => Ok(Permissions::from_mode(0o755)),
-        _ => Err(TableError::Text("no such mode")),
-    }
-}
-
 /// Makes a change of files. Fails if there is no such key, or if the change fails.
 fn arrange<R: Real>(rt: &R, key: &str, text: &str) -> Result<(), TableError> {
     let (path, more) = first_word(text);
     match key {
         "write" => fs::write(rt, path, more.replace(rt.alloc(), "{feed}", "\n")?)?,
-        "mode" => fs::set_permissions(rt, path, permissions(more)?)?,
+        "mode" => {
+            let mode = u32::from_str_radix(more, 8)?;
+            fs::set_permissions(rt, path, Permissions::from_mode(mode))?;
+        }
         "make_folder" => fs::create_dir(rt, path)?,
         "remove_folder" => fs::remove_dir(rt, path)?,
         "remove" => fs::remove_file(rt, path)?,

@@ -17,30 +17,22 @@ pub fn push_line(text: &mut String, alloc: Global, args: &str) -> Result<(), All
     }
 }
 
-/// Does what the program does with these arguments, and adds its status and what it wrote. Each of
-/// its streams has room for so many bytes. Blocks until it is done. Fails on an allocation failure.
+/// The greatest number of bytes that the program writes to a stream in a row.
+const ROOM: usize = 4096;
+
+/// Does what the program does with these arguments, and adds its status and what it wrote. Blocks
+/// until it is done. Fails on an allocation failure.
 pub fn push_performed<S: System>(
     text: &mut String,
     rt: &impl Wait,
     alloc: Global,
     system: &mut S,
     args: &str,
-    room: usize,
 ) -> Result<(), AllocError> {
     let args = arguments(alloc, args)?;
-    let (mut out, mut err) = (vec![in alloc; 0_u8; room]?, vec![in alloc; 0_u8; room]?);
-    let (mut free_out, mut free_err) = (out.as_mut_slice(), err.as_mut_slice());
-    let status = perform(
-        rt,
-        alloc,
-        system,
-        args.as_slice(),
-        &mut free_out,
-        &mut free_err,
-    );
-    let (unused_out, unused_err) = (free_out.len(), free_err.len());
-    out.truncate(room.saturating_sub(unused_out));
-    err.truncate(room.saturating_sub(unused_err));
+    let mut out = Vec::with_capacity(alloc, ROOM)?;
+    let mut err = Vec::with_capacity(alloc, ROOM)?;
+    let status = perform(rt, alloc, system, args.as_slice(), &mut out, &mut err);
     let (out, err) = (Bytes(out.as_slice()), Bytes(err.as_slice()));
     write!(text, "{status} out={out} err={err}")
 }

@@ -7,7 +7,7 @@ use duct::unix::HandleExt;
 use duct::{Clock, Error, Handle, Output, ReaderHandle, Running, Seen, System};
 use rows_table::{Bytes, TableError, Tree, duration, first_word};
 use std::alloc::{AllocError, Global};
-use std::io::{self, Read};
+use std::io::Read;
 use std::sync::{Arc, Wait};
 
 /// What a poll or a wait returns.
@@ -185,36 +185,24 @@ fn waited_as<S: System, C: Clock>(
     }
 }
 
-/// Reads into a buffer: with a new token, or by a read of std, by the handle itself or through a
-/// shared reference to it. Adds the result. Of an error of std, adds the kind.
+/// Reads into a buffer: with a new token, or by a read of std. Adds the result. Of an error of std,
+/// adds the kind.
 fn push_read<S: System, R: Wait>(
     text: &mut String,
     handle: &mut ReaderHandle<S, R>,
     name: &str,
     buffer: &mut [u8],
 ) -> Result<(), AllocError> {
-    let read = match name {
-        "read" => {
-            return match handle.read_as(buffer, &mut handle.seen()) {
-                Ok(count) => push_prefix(text, buffer, count),
-                Err(error) => push_error(text, &error),
-            };
-        }
-        "own" => handle.read(buffer),
-        _ => read_shared(handle, buffer),
-    };
-    match read {
+    if name == "read" {
+        return match handle.read_as(buffer, &mut handle.seen()) {
+            Ok(count) => push_prefix(text, buffer, count),
+            Err(error) => push_error(text, &error),
+        };
+    }
+    match handle.read(buffer) {
         Ok(count) => push_prefix(text, buffer, count),
         Err(error) => write!(text, "{:?}. ", error.kind()),
     }
-}
-
-/// Reads once through a shared reference to a handle.
-fn read_shared<S: System, R: Wait>(
-    mut handle: &ReaderHandle<S, R>,
-    buffer: &mut [u8],
-) -> io::Result<usize> {
-    handle.read(buffer)
 }
 
 /// Adds a count, and that many bytes of the buffer, if there are any.

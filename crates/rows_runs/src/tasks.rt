@@ -1,20 +1,12 @@
 //! Expressions of which only so many run at once, and one that is started again each time that it
 //! ends.
-use crate::texts::{push_error, push_output};
-use duct::{Clock, Error, Output, Pool, System};
+use crate::texts::{push_error, push_polled};
+use duct::{Clock, Pool, System};
 use duct_tasks::{AtFailure, Progress, Restarts, Service, Tasks, keep, run_all};
 use rows_table::{TableError, Tree, duration, first_word};
-use std::alloc::{AllocError, Global};
+use std::alloc::Global;
 use std::cell::Cell;
-use std::sync::{Arc, Wait};
-
-/// Adds how an expression ended: a status with what was captured, or the text of an error.
-fn push_end(text: &mut String, end: &Result<Arc<Output>, Error>) -> Result<(), AllocError> {
-    match end {
-        Ok(output) => push_output(text, output),
-        Err(error) => push_error(text, error),
-    }
-}
+use std::sync::Wait;
 
 /// Returns what becomes of the other tasks once one has failed, by its name.
 fn at_failure(name: &str) -> Result<AtFailure, TableError> {
@@ -50,8 +42,8 @@ pub fn run_tasks<S: System>(
     let tell = |_: usize, _: Progress<'_>| {};
     match run_all(rt, alloc, system, pool, tasks, tell) {
         Ok(ends) => {
-            for end in &ends {
-                push_end(answers, end)?;
+            for end in ends {
+                push_polled(answers, &end.map(Some))?;
             }
         }
         Err(error) => push_error(answers, &error)?,
@@ -82,9 +74,10 @@ pub fn keep_running<S: System, C: Clock>(
     };
     let kept = keep(rt, system, pool, &service, stop, tell);
     write!(answers, "{:?} after {}", kept.why, kept.starts)?;
-    match &kept.last {
-        Some(end) => Ok(answers.push_str(": ").and(push_end(answers, end))?),
-        None => Ok(answers.push_str(". ")?),
+    answers.push_str(if kept.last.is_some() { ": " } else { ". " })?;
+    match kept.last {
+        Some(end) => Ok(push_polled(answers, &end.map(Some))?),
+        None => Ok(()),
     }
 }
 

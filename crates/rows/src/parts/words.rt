@@ -1,17 +1,13 @@
-//! Texts of a shell: their tokens and expressions, and texts of words and of expressions.
+//! The tokens of texts of a shell, and texts of words and of expressions.
 use crate::parts::Parts;
 use duct::{Error, Stream};
-use duct_program::Usage;
-use duct_script::ScriptEnd;
-use duct_words::{LineError, ShellTextError, SplitError, Token, parse, quote, shell_text, split};
-use rows_table::{TableError, Tree, arguments, written};
-use std::alloc::AllocError;
+use duct_words::{ShellTextError, SplitError, Token, quote, shell_text, split};
+use rows_table::{TableError, arguments, written};
 
 /// Adds what is said of the text, the arguments or the expression of a row.
 pub fn push(text: &mut String, row: &Parts, key: &str) -> Result<(), TableError> {
     match key {
         "tokens" => push_tokens(text, row),
-        "meant" => push_meant(text, row),
         "quoted" => {
             let words = arguments(row.alloc, row.text("arguments"))?;
             let quoted = quote(row.alloc, words.as_slice())?;
@@ -21,15 +17,13 @@ pub fn push(text: &mut String, row: &Parts, key: &str) -> Result<(), TableError>
     }
 }
 
-/// Returns the text of a row: the last line `text`, with newlines and tabs.
-fn text_of(row: &Parts) -> Result<String, AllocError> {
-    let lines = row.text("text").replace(row.alloc, "␤", "\n")?;
-    lines.as_str().replace(row.alloc, "␉", "\t")
-}
-
 /// Adds the tokens of the text of a row, or why it has none.
 fn push_tokens(text: &mut String, row: &Parts) -> Result<(), TableError> {
-    match split(row.alloc, text_of(row)?.as_str()) {
+    let lines = row.text("text").replace(row.alloc, "␤", "\n")?;
+    match split(
+        row.alloc,
+        lines.as_str().replace(row.alloc, "␉", "\t")?.as_str(),
+    ) {
         Ok(tokens) => {
             for token in &tokens {
                 match token {
@@ -42,19 +36,6 @@ fn push_tokens(text: &mut String, row: &Parts) -> Result<(), TableError> {
             }
         }
         Err(SplitError::Memory) => return Err(TableError::Error(Error::Memory)),
-        Err(error) => write!(text, "{error}")?,
-    }
-    Ok(())
-}
-
-/// Adds the expression of the text of a row, or why it has none.
-fn push_meant(text: &mut String, row: &Parts) -> Result<(), TableError> {
-    let meant: Result<Tree<ScriptEnd>, LineError> = parse(row.alloc, text_of(row)?.as_str());
-    match meant {
-        Ok(tree) => write!(text, "{tree:?}")?,
-        Err(LineError::Split(SplitError::Memory) | LineError::Usage(Usage::Memory)) => {
-            return Err(TableError::Error(Error::Memory));
-        }
         Err(error) => write!(text, "{error}")?,
     }
     Ok(())
