@@ -2,7 +2,7 @@
 //! ends.
 use crate::texts::{push_error, push_polled};
 use duct::{Clock, Pool, System};
-use duct_tasks::{AtFailure, Progress, Restarts, Service, Tasks, keep, run_all};
+use duct_tasks::{AtFailure, Kept, Progress, Restarts, Service, Tasks, keep, run_all};
 use rows_table::{TableError, Tree, duration, first_word};
 use std::alloc::Global;
 use std::cell::Cell;
@@ -72,12 +72,15 @@ pub fn keep_running<S: System, C: Clock>(
         restarts,
         clock,
     };
-    let kept = keep(rt, system, pool, &service, stop, tell);
-    write!(answers, "{:?} after {}", kept.why, kept.starts)?;
-    answers.push_str(if kept.last.is_some() { ": " } else { ". " })?;
-    match kept.last {
-        Some(end) => Ok(push_polled(answers, &end.map(Some))?),
-        None => Ok(()),
+    let Kept { starts, why, last } = keep(rt, system, pool, &service, stop, tell);
+    write!(answers, "{why:?} after {starts}")?;
+    match last {
+        Some(end) => Ok(
+            answers
+                .push_str(": ")
+                .and(push_polled(answers, &end.map(Some)))?,
+        ),
+        None => Ok(answers.push_str(". ")?),
     }
 }
 

@@ -85,11 +85,7 @@ fn plays<H: SharedHandle, R: Wait + rt::Clock>(
     let last = ending(handle.wait(rt));
     let again = told(handle.try_wait(rt));
     let same = (first.is_none() || first == Some(last)) && again == Some(last);
-    if same && handle.pids().len() == 2 {
-        Some(last)
-    } else {
-        None
-    }
+    (same && handle.pids().len() == 2).then_some(last)
 }
 
 /// Whether a round may end in this way: by itself with all bytes captured, or by the order.

@@ -4,26 +4,14 @@ use crate::waits::until;
 use duct::ReaderHandle;
 use duct_script::{Gate, ReaderScript, Script};
 use rows_table::{Bench, TableError, written};
-use std::alloc::{AllocError, Global};
+use std::alloc::Global;
 use std::sync::Wait;
 use std::test::Fail;
 use std::thread;
 use std::thread::Threads;
 
-/// Sets a reader that returns this many bytes, and passes the gate before each read.
-fn set_reader(
-    alloc: Global,
-    sys: &mut Script,
-    count: usize,
-    gate: &Gate,
-) -> Result<(), AllocError> {
-    let mut script = ReaderScript::empty(alloc);
-    script.bytes = vec![in alloc; 7; count]?;
-    script.gate = Some(gate.share()?);
-    sys.bytes(script)
-}
-
-/// Starts one command with such a reader. Returns its reader handle.
+/// Starts one command, whose reader returns this many bytes, and passes the gate before each read.
+/// Returns its reader handle.
 fn handle_of<'r, R: Wait>(
     rt: &'r R,
     alloc: Global,
@@ -31,7 +19,10 @@ fn handle_of<'r, R: Wait>(
     count: usize,
     gate: &Gate,
 ) -> Result<ReaderHandle<Script, &'r R>, TableError> {
-    set_reader(alloc, &mut bench.sys, count, gate)?;
+    let mut script = ReaderScript::empty(alloc);
+    script.bytes = vec![in alloc; 7; count]?;
+    script.gate = Some(gate.share()?);
+    bench.sys.bytes(script)?;
     let tree = written(alloc, "a")?;
     Ok(tree.reader(rt, &mut bench.sys, &mut bench.pool)?)
 }
