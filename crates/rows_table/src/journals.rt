@@ -24,104 +24,85 @@ pub fn push_journal(text: &mut String, journal: &[Entry]) -> Result<(), AllocErr
     Ok(())
 }
 
-fn push_variables(text: &mut String, spec: &CommandSpec) -> Result<(), TableError> {
+/// Adds the entries of the trace. An entry that was refused has the kind of its fault. An end is
+/// shown by where it comes from: the index in the trace of the entry that opened it, the parent's
+/// stream, or the number of a lent end. Fails only on an allocation failure.
+pub fn push_trace(text: &mut String, alloc: Global, entries: &[Entry]) -> Result<(), TableError> {
+    let trace = trace(alloc, entries)?;
+    for entry in &trace {
+        push_comma(text)?;
+        push_request(text, (entries, trace.as_slice()), entry)?;
+        if let Some(fault) = entry.fault() {
+            write!(text, " refused={:?}", fault.kind)?;
+        }
+    }
+    Ok(())
+}
+
+/// The entries of a journal, and those of its trace.
+type Both<'a> = (&'a [Entry], &'a [&'a Entry]);
+
+fn push_request(text: &mut String, both: Both, entry: &Entry) -> Result<(), TableError> {
+    match entry {
+        Entry::Environment(_) => text.push_str("Environment")?,
+        Entry::Pipe(_) => text.push_str("Pipe")?,
+        Entry::OpenRead(path, _) => write!(text, "OpenRead {path}")?,
+        Entry::Create(path, _) => write!(text, "Create {path}")?,
+        Entry::Canonicalize(path, _) => write!(text, "Canonicalize {path}")?,
+        Entry::Spawn(spec, io, _) => push_spawn(text, both, spec, io)?,
+        Entry::Feed(end, bytes, _) => {
+            push_end(text, both, "Feed", *end)?;
+            write!(text, " {:?}", bytes.as_slice())?;
+        }
+        Entry::Drain(end, _) => push_end(text, both, "Drain", *end)?,
+        Entry::Reader(end) => push_end(text, both, "Reader", *end)?,
+        Entry::Duplicate(_, _) | Entry::Parent(_, _) | Entry::Close(_) => {}
+    }
+    Ok(())
+}
+
+fn push_spawn(
+    text: &mut String,
+    both: Both,
+    spec: &CommandSpec,
+    io: &[Stdio<u64>; 3],
+) -> Result<(), TableError> {
+    text.push_str("Spawn")?;
+    for word in spec.words() {
+        write!(text, " {word}")?;
+    }
+    text.push_str(" ->")?;
+    for stream in io {
+        match stream {
+            Stdio::Inherit => text.push_str(" inherit")?,
+            Stdio::Null => text.push_str(" null")?,
+            Stdio::End(end) => push_end(text, both, "", *end)?,
+        }
+    }
+    if let Some(folder) = spec.folder() {
+        write!(text, " in {folder}")?;
+    }
     for (name, value) in spec.vars()?.iter() {
         write!(text, " {name}={value}")?;
     }
     Ok(())
 }
 
-/// Adds the entries of the trace. An entry that was refused has the kind of its fault. An end is
-/// shown by where it comes from: the index in the trace of the entry that opened it, the parent's
-/// stream, or the number of a lent end. Fails only on an allocation failure.
-pub fn push_trace(text: &mut String, alloc: Global, entries: &[Entry]) -> Result<(), TableError> {
-    let traced = trace(alloc, entries)?;
-    let trace = traced.as_slice();
-    let mut tracing = Tracing {
-        text,
-        entries,
-        trace,
+/// Adds a word, and where the end with this number comes from.
+fn push_end(text: &mut String, both: Both, word: &str, end: u64) -> Result<(), AllocError> {
+    text.push_str(word)?;
+    let (entries, trace) = both;
+    let number = match origin(entries, end) {
+        Source::Opened(number) => number,
+        Source::ParentOf(side) => return write!(text, " parent-{side:?}"),
+        Source::Lent(number) => return write!(text, " lent-{number}"),
     };
-    for entry in trace {
-        tracing.push(entry)?;
-    }
-    Ok(())
-}
-
-/// The text of a trace, with the journal.
-#[derive(Drop)]
-struct Tracing<'a> {
-    text: &'a mut String,
-    entries: &'a [Entry],
-    trace: &'a [&'a Entry],
-}
-
-impl Tracing<'_> {
-    fn push(&mut self, entry: &Entry) -> Result<(), TableError> {
-        push_comma(self.text)?;
-        self.push_request(entry)?;
-        match entry.fault() {
-            Some(fault) => Ok(write!(self.text, " refused={:?}", fault.kind)?),
-            None => Ok(()),
+    for (place, entry) in trace.iter().enumerate() {
+        if let Some(end) = end_of(entry, number) {
+            return write!(text, " {end}-{place}");
         }
     }
-
-    fn push_request(&mut self, entry: &Entry) -> Result<(), TableError> {
-        match entry {
-            Entry::Environment(_) => Ok(self.text.push_str("Environment")?),
-            Entry::Pipe(_) => Ok(self.text.push_str("Pipe")?),
-            Entry::OpenRead(path, _) => Ok(write!(self.text, "OpenRead {path}")?),
-            Entry::Create(path, _) => Ok(write!(self.text, "Create {path}")?),
-            Entry::Canonicalize(path, _) => Ok(write!(self.text, "Canonicalize {path}")?),
-            Entry::Spawn(spec, io, _) => self.push_spawn(spec, io),
-            Entry::Feed(end, bytes, _) => {
-                self.push_end("Feed", *end)?;
-                Ok(write!(self.text, " {:?}", bytes.as_slice())?)
-            }
-            Entry::Drain(end, _) => Ok(self.push_end("Drain", *end)?),
-            Entry::Reader(end) => Ok(self.push_end("Reader", *end)?),
-            Entry::Duplicate(_, _) | Entry::Parent(_, _) | Entry::Close(_) => Ok(()),
-        }
-    }
-
-    fn push_spawn(&mut self, spec: &CommandSpec, io: &[Stdio<u64>; 3]) -> Result<(), TableError> {
-        self.text.push_str("Spawn")?;
-        for word in spec.words() {
-            write!(self.text, " {word}")?;
-        }
-        self.text.push_str(" ->")?;
-        for stream in io {
-            self.push_stream(stream)?;
-        }
-        if let Some(folder) = spec.folder() {
-            write!(self.text, " in {folder}")?;
-        }
-        push_variables(self.text, spec)
-    }
-
-    fn push_stream(&mut self, stream: &Stdio<u64>) -> Result<(), AllocError> {
-        match stream {
-            Stdio::Inherit => self.text.push_str(" inherit"),
-            Stdio::Null => self.text.push_str(" null"),
-            Stdio::End(end) => self.push_end("", *end),
-        }
-    }
-
-    /// Adds a word, and where the end with this number comes from.
-    fn push_end(&mut self, word: &str, end: u64) -> Result<(), AllocError> {
-        self.text.push_str(word)?;
-        let number = match origin(self.entries, end) {
-            Source::Opened(number) => number,
-            Source::ParentOf(side) => return write!(self.text, " parent-{side:?}"),
-            Source::Lent(number) => return write!(self.text, " lent-{number}"),
-        };
-        for (place, entry) in self.trace.iter().enumerate() {
-            if let Some(end) = end_of(entry, number) {
-                return write!(self.text, " {end}-{place}");
-            }
-        }
-        write!(self.text, " unknown-{number}")
-    }
+    write!(text, " unknown-{number}")
 }
 
 /// What the end with this number is, if this entry returned it.
@@ -147,11 +128,10 @@ pub fn children_started(entries: &[Entry]) -> u64 {
 /// Adds how many children the pool keeps, was given, has reaped, and has lost. Fails on an
 /// allocation failure.
 pub fn push_pool<C: Drop>(text: &mut String, pool: &Pool<C>) -> Result<(), AllocError> {
-    let (given, reaped, lost) = (pool.given(), pool.reaped(), pool.lost());
+    let (len, given, reaped, lost) = (pool.len(), pool.given(), pool.reaped(), pool.lost());
     write!(
         text,
-        "len {}, given {given}, reaped {reaped}, lost {lost}",
-        pool.len()
+        "len {len}, given {given}, reaped {reaped}, lost {lost}"
     )
 }
 
@@ -173,8 +153,7 @@ pub fn push_turns(text: &mut String, calls: &CallLog) -> Result<(), AllocError> 
         match calls.get(place as usize) {
             Some(Call::Poll(_)) => text.push('p')?,
             Some(Call::Order(_)) => text.push('o')?,
-            Some(Call::Request(_) | Call::Hook(_) | Call::PollFeed(_) | Call::PollDrain(_))
-            | None => (),
+            _ => {}
         }
     }
     Ok(())

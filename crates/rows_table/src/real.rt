@@ -22,7 +22,11 @@ impl<R: Platform + Threads + Clock + AllocGlobal + Clone + Drop> Real for R {}
 /// those that have ended and are not reaped yet. Counting itself needs a file descriptor, and never
 /// two at a time. Fails if `/proc` can't be read, or on an allocation failure.
 pub fn count_left<R: Files + AllocGlobal + Clone>(rt: &R) -> io::Result<(usize, usize)> {
-    let descriptors = open_descriptors(rt)?;
+    let mut descriptors = 0_usize;
+    for entry in fs::read_dir(rt, "/proc/self/fd")? {
+        entry?;
+        descriptors = descriptors.saturating_add(1);
+    }
     let mut threads = Vec::new(rt.alloc());
     for thread in fs::read_dir(rt, "/proc/self/task")? {
         threads.push(thread?)?;
@@ -43,16 +47,6 @@ fn children_of<R: Files + AllocGlobal>(rt: &R, thread: &str) -> io::Result<usize
         Err(error) if error.kind() == ErrorKind::NotFound => Ok(0),
         Err(error) => Err(error),
     }
-}
-
-/// Returns how many file descriptors this process has open. Fails if `/proc/self/fd` can't be read.
-pub fn open_descriptors<R: Files + Alloc + Clone>(rt: &R) -> io::Result<usize> {
-    let mut count = 0usize;
-    for entry in fs::read_dir(rt, "/proc/self/fd")? {
-        entry?;
-        count = count.saturating_add(1);
-    }
-    Ok(count)
 }
 
 /// Returns the text of a file of rows for this process: `{place}` and `{nul}` in it are replaced

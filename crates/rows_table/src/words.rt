@@ -31,11 +31,10 @@ pub fn arguments(alloc: Global, text: &str) -> Result<Vec<String>, AllocError> {
     Ok(args)
 }
 
-/// Returns copies of the parts of a text that this character separates. Fails on an allocation
-/// failure.
-pub fn texts(alloc: Global, text: &str, between: char) -> Result<Arc<Vec<String>>, AllocError> {
+/// Returns copies of the parts of a text between commas. Fails on an allocation failure.
+pub fn texts(alloc: Global, text: &str) -> Result<Arc<Vec<String>>, AllocError> {
     let mut texts = Vec::new(alloc);
-    for part in text.split(between) {
+    for part in text.split(',') {
         texts.push(String::from_str(alloc, part)?)?;
     }
     Ok(Arc::new(alloc, texts)?)

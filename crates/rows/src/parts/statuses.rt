@@ -50,7 +50,7 @@ fn shape(row: &Parts) -> Result<Shape, TableError> {
                 let right = last(alloc, &mut shapes)?;
                 Shape::Pipe(last(alloc, &mut shapes)?, right)
             }
-            words => Shape::Command(texts(alloc, words, ',')?),
+            words => Shape::Command(texts(alloc, words)?),
         };
         shapes.push(shape)?;
     }
