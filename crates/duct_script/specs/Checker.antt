@@ -1,13 +1,10 @@
 -- What the checker of journals returns: whether the ends balance, and where an end comes from.
 use Rattle.std.specs.Prelude.{ℕ, ◌≤◌, List, [], ◌∷◌, ◌≡◌}
-use Rattle.duct_system.specs.EntryView.{EntryView}
 use Rattle.duct_system.specs.Ledger.{count_of}
-use Rattle.duct_system.specs.Origin.{Origin, origin_before}
+use Rattle.duct_system.specs.Origin.{Origin}
 use Rattle.duct_system.specs.Origin as origin
 use Rattle.duct_script.specs.declared.checker.Source.{Source}
 use Rattle.duct_script.specs.declared.checker.Source.TheVariants.{Opened, ParentOf, Lent}
-use Rattle.duct_script.specs.declared.checker.Step.{Step}
-use Rattle.duct_script.specs.declared.checker.Step.TheVariants.{Found, From}
 
 -- a number occurs equally often in both lists, and at most once
 abbrev pub BalancesAt : List ℕ → List ℕ → ℕ → Type 0
@@ -28,11 +25,3 @@ abbrev pub origin_of : Source → Origin
 origin_of (Opened number) = origin.Opened number
 origin_of (ParentOf side) = origin.ParentOf side
 origin_of (Lent number) = origin.Lent number
-
--- one step back through the entries: this entry decides where an end comes from, or the entries
--- before it do, for the end with another number
-abbrev pub Steps : EntryView → ℕ → Step → Type 0
-Steps entry number (Found source) =
-    (entries : List EntryView) → origin_before (entry ∷ entries) number ≡ origin_of source
-Steps entry number (From lent) =
-    (entries : List EntryView) → origin_before (entry ∷ entries) number ≡ origin_before entries lent

@@ -6,7 +6,7 @@ ghost use Rattle.duct_system.specs.Trace.{trace, is_traced};
 ghost use Rattle.duct_system.specs.Ledger.{opened_numbers, spent_numbers, count_of, IsBalanced, open_count};
 ghost use Rattle.duct_system.specs.Origin.{origin};
 ghost use Rattle.duct_system.specs.Streams.{present};
-ghost use Rattle.duct_script.specs.Checker.{Balances, BalancesAt, AllBalance, origin_of, Steps};
+ghost use Rattle.duct_script.specs.Checker.{Balances, BalancesAt, AllBalance, origin_of};
 
 use duct_system::system::{Entry, Side};
 use std::alloc::{AllocError, Global};
@@ -99,39 +99,19 @@ pub fn origin(entries: &[Entry], number: u64) -> Source
     let mut number = number;
     let mut left = entries;
     while let Some((last, earlier)) = left.split_last() {
-        match step_back(last, number) {
-            Step::Found(source) => return source,
-            Step::From(lent) => number = lent,
+        match last {
+            Entry::Pipe(Ok((reader, writer))) if number == *reader || number == *writer => {
+                return Source::Opened(number);
+            }
+            Entry::OpenRead(_, Ok(end)) if number == *end => return Source::Opened(number),
+            Entry::Create(_, Ok(end)) if number == *end => return Source::Opened(number),
+            Entry::Parent(side, Ok(end)) if number == *end => return Source::ParentOf(*side),
+            Entry::Duplicate(lent, Ok(end)) if number == *end => number = *lent,
+            _ => {}
         }
         left = earlier;
     }
     Source::Lent(number)
-}
-
-/// What an entry tells about where an end comes from.
-#[derive(Clone, Copy, Drop)]
-enum Step {
-    /// It comes from here.
-    Found(Source),
-    /// It comes from where the end with this number comes from, according to the entries before
-    /// this one.
-    From(u64),
-}
-
-/// Returns what an entry tells about where the end with this number comes from.
-fn step_back(entry: &Entry, number: u64) -> Step
-    ensures { Steps (entry_view entry.now) number result }
-{
-    match entry {
-        Entry::Pipe(Ok((reader, writer))) if number == *reader || number == *writer => {
-            Step::Found(Source::Opened(number))
-        }
-        Entry::OpenRead(_, Ok(end)) if number == *end => Step::Found(Source::Opened(number)),
-        Entry::Create(_, Ok(end)) if number == *end => Step::Found(Source::Opened(number)),
-        Entry::Parent(side, Ok(end)) if number == *end => Step::Found(Source::ParentOf(*side)),
-        Entry::Duplicate(lent, Ok(end)) if number == *end => Step::From(*lent),
-        _ => Step::From(number),
-    }
 }
 
 /// Returns whether each number occurs equally often in both lists, and at most once.

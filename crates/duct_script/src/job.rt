@@ -16,10 +16,8 @@ use std::sync::Arc;
 /// `Done`.
 pub type FeedScript = Answers<Said<()>>;
 
-/// The results of a drain's polls, in order, up to the first `Done` or `Fault`, which later polls
-/// repeat. If there is none, the last result is repeated. With an empty list, a poll returns `Done`
-/// with no bytes. In place of a `Done` whose bytes can't get one more owner, a poll returns
-/// `Running`.
+/// The same of a drain, where an empty list stands for `Done` with no bytes. In place of a `Done`
+/// whose bytes can't get one more owner, a poll returns `Running`.
 pub type DrainScript = VecDeque<Said<Arc<Vec<u8>>>>;
 
 /// A worker that writes nothing and whose results come from a list.

@@ -73,13 +73,6 @@ impl ScriptReader {
         }
     }
 
-    /// Returns the number of its end.
-    pub fn number(&self) -> u64
-        ensures { result ≡ self.now.number }
-    {
-        self.number
-    }
-
     /// Takes the next step. Returns the most bytes that the read may return, which is at least 1,
     /// or the kind of its error.
     fn step(&mut self) -> Result<usize, ErrorKind>

@@ -176,8 +176,7 @@ impl Script {
         Ok(())
     }
 
-    /// Sets the results of one more feed. Each feed that is started takes the first results that
-    /// are left. If there are none, its polls return `Done`.
+    /// Sets the results of one more feed, as `child` does. Without any, its polls return `Done`.
     pub fn feed(&mut self, script: FeedScript) -> Result<(), AllocError>
         ensures ok { OnOk result (self.new.feeds.items ≡ self.old.feeds.items ++ script ∷ []) }
         ensures err { OnErr result (self.new.feeds.items ≡ self.old.feeds.items) }
@@ -187,8 +186,8 @@ impl Script {
         Ok(())
     }
 
-    /// Sets the results of one more drain. Each drain that is started takes the first results that
-    /// are left. If there are none, its polls return `Done` with no bytes.
+    /// Sets the results of one more drain, as `child` does. Without any, its polls return `Done`
+    /// with no bytes.
     pub fn drain(&mut self, script: DrainScript) -> Result<(), AllocError>
         ensures ok { OnOk result (self.new.drains.items ≡ self.old.drains.items ++ script ∷ []) }
         ensures err { OnErr result (self.new.drains.items ≡ self.old.drains.items) }
@@ -198,8 +197,8 @@ impl Script {
         Ok(())
     }
 
-    /// Sets the bytes and the reads of one more reader. Each reader takes the first that are left.
-    /// If there are none, it returns no bytes.
+    /// Sets the bytes and the reads of one more reader, as `child` does. Without any, it returns no
+    /// bytes.
     pub fn bytes(&mut self, script: ReaderScript) -> Result<(), AllocError>
         ensures ok { OnOk result (self.new.readers.items ≡ self.old.readers.items ++ script ∷ []) }
         ensures err { OnErr result (self.new.readers.items ≡ self.old.readers.items) }
@@ -252,13 +251,6 @@ impl Script {
     {
         let number = self.answer(None, 1)?;
         Ok(ScriptEnd { number })
-    }
-
-    /// Returns how many entries can be added without an allocation.
-    pub fn room(&self) -> usize
-        ensures { result ≡ self.now.journal.room }
-    {
-        self.journal.room()
     }
 
     /// Returns how many requests were counted since the system was made.
