@@ -1,4 +1,5 @@
 //! The examples that are proved, by what they show, with tests over the real machine.
+mod backup;
 mod calling;
 mod first_steps;
 mod guard;
