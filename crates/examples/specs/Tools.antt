@@ -1,12 +1,12 @@
--- What a build step may do.
-use Rattle.std.specs.Prelude.{ℕ, Bool, false, true, List, [], ◌∷◌, bytes_eq, codes}
+-- What a deployment may do.
+use Rattle.std.specs.Prelude.{ℕ, Bool, false, true, List, [], ◌∷◌, bytes_eq, codes, ◌||◌}
 use Rattle.duct_guard.specs.Policies.{no_limit, unlimited}
 use Rattle.duct_guard.specs.Rules.{RequestView, Rules, spawn, read, create}
 
--- whether the first of some words is /bin/echo
+-- whether the first of some words is ssh or tar
 abbrev pub is_tool : List (List ℕ) → Bool
 is_tool [] = false
-is_tool (program ∷ arguments) = bytes_eq program (codes "/bin/echo")
+is_tool (program ∷ arguments) = bytes_eq program (codes "ssh") || bytes_eq program (codes "tar")
 
 -- whether a request starts no other program and opens no file
 abbrev pub is_tool_request : RequestView → Bool

@@ -1,6 +1,6 @@
 //! The examples that are proved, by what they show, with tests over the real machine.
 mod backup;
 mod calling;
+mod deploy;
 mod first_steps;
-mod guard;
 mod threads;
