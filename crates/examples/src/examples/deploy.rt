@@ -10,7 +10,6 @@ use duct_replay::{Recorder, Records, Replay, Values, read_recording, recording_t
 use duct_shell::{Chain, ChainSettings, Error, Expression, Failure, Shell, System, cmd, run};
 use duct_words::{ShellTextError, quote, shell_text};
 use std::alloc::Global;
-use std::fs;
 use std::sync::Wait;
 use std::test::Fail;
 
@@ -130,37 +129,65 @@ env 'PATH=/usr/bin' ssh web -- 'sh '\\''/srv/new site/start'\\'''
     Ok(())
 }
 
+/// What a deployment failed with, and the lines of its recording.
+#[derive(Drop)]
+struct Recorded {
+    told: String,
+    lines: String,
+}
+
+/// Deploys over a recorder.
+fn record<S: System + Drop, R: Wait + Drop>(
+    rt: R,
+    alloc: Global,
+    system: S,
+    release: &Release,
+) -> Result<Recorded, Fail>
+    requires { (S.journal_view system).entries ≡ [] }
+{
+    let (recorder, failed) = deploy(rt, alloc, Recorder::new(alloc, system), release);
+    let told = format!(in alloc; "{failed:?}")?;
+    let lines = recording_text(alloc, &recorder.recording()?, Values::Shown)?;
+    Ok(Recorded { told, lines })
+}
+
+/// Deploys over a recording. Returns what it failed with, and whether all requests were those of
+/// the recording.
+fn replayed<R: Wait + Drop>(
+    rt: R,
+    alloc: Global,
+    lines: &str,
+    release: &Release,
+) -> Result<(String, bool), Fail> {
+    let recording = read_recording(alloc, lines)?;
+    let (replay, failed) = deploy(rt, alloc, Replay::new(alloc, recording), release);
+    let is_same = replay.difference().is_none();
+    Ok((format!(in alloc; "{failed:?}")?, is_same))
+}
+
 // There is no server here: the `ssh` of this test leaves out the machine, and `sh` runs the text.
 #[test]
 fn a_failure_is_replayed(rt: HostRuntime) -> Result<(), Fail> {
     let (mut sh, alloc) = (Shell::new(&rt), rt.alloc());
-    run!(sh; "mkdir", "bin", "site")?;
-    fs::write(&rt, "bin/ssh", b"#!/bin/sh\nshift 2\nexec sh -c \"$1\"\n")?;
-    run!(sh; "chmod", "+x", "bin/ssh")?;
+    run!(sh; "sh", "-c", "mkdir bin site
+printf '#!/bin/sh\\nshift 2\\nexec sh -c \"$1\"\\n' > bin/ssh; chmod +x bin/ssh
+printf 'echo no disk >&2\\nexit 3\\n' > site/start")?;
     let release = Release {
         folder: "site",
         machine: "web",
         target: "it's new",
         path: "bin:/usr/bin:/bin",
     };
-    fs::write(&rt, "site/start", b"touch started\n")?;
-    deploy(&rt, alloc, Host::new(&rt, alloc), &release).1?;
-    run!(sh; "rm", "started")?;
-    fs::write(&rt, "site/start", b"echo no disk >&2\nexit 3\n")?;
-    let recorder = Recorder::new(alloc, Host::new(&rt, alloc));
-    let (recorder, failed) = deploy(&rt, alloc, recorder, &release);
-    let told = format!(in alloc; "{failed:?}")?;
+    let recorded = record(&rt, alloc, Host::new(&rt, alloc), &release)?;
+    run!(sh; "rm", "-r", "bin", "site", "it's new")?;
+    let (told, is_same) = replayed(&rt, alloc, recorded.lines.as_str(), &release)?;
     let wanted = "Err(command [\"ssh\", \"web\", \"--\", \"sh 'it'\\\\''s new/start'\"] \
 exited with code 3
 --- stderr
 no disk)";
+    assert_eq!(rt; recorded.told.as_str(), wanted);
     assert_eq!(rt; told.as_str(), wanted);
-    let lines = recording_text(alloc, &recorder.recording()?, Values::Shown)?;
-    run!(sh; "rm", "-r", "bin", "site", "it's new")?;
-    let replay = Replay::new(alloc, read_recording(alloc, lines.as_str())?);
-    let (replay, again) = deploy(&rt, alloc, replay, &release);
-    assert_eq!(rt; format!(in alloc; "{again:?}")?, told);
-    assert_eq!(rt; replay.difference(), None);
+    assert!(rt; is_same);
     Ok(())
 }
 
