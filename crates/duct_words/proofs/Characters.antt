@@ -5,6 +5,7 @@ use Rattle.std.proofs.lemmas.Bool.Decides.{nat_tests}
 use Rattle.std.proofs.lemmas.Str.{encode_ascii}
 use Rattle.std.proofs.Math.Utf8.{encode, next}
 use Rattle.duct_program.specs.Parsed.{◌>>=◌}
+use Rattle.duct_words.specs.Place.{doubled}
 use Rattle.duct_words.specs.Quote.{between}
 use Rattle.duct_words.specs.Split.{RefusesAs, State, TokenView, bare, kind_of, ordinary, pushed, read, step}
 use Rattle.duct_words.specs.declared.error.SplitError.{SplitError}
@@ -155,33 +156,40 @@ module _ (place : ℕ) (state : State) (c : ℕ) (rest bytes : List ℕ) (at : �
   refused (LastBackslash at_place) went = sym (stepped (Err (LastBackslash at_place)) went)
   refused Memory went = tt
 
+pub doubled_one : (b : ℕ) (rest : List ℕ) → b ≢ 36 → doubled (b ∷ rest) ≡ b ∷ doubled rest
+doubled_one b rest other =
+    let differs : (b == 36) ≡ false = grind (arith, nat_tests) in rw (differs, doubled)
+
 pub between_one : (b : ℕ) (rest : List ℕ) → b ≢ 39 → between (b ∷ rest) ≡ b ∷ between rest
 between_one b rest other =
     let differs : (b == 39) ≡ false = grind (arith, nat_tests) in rw (differs, between)
 
-between_far : (bytes rest : List ℕ) → AllFar bytes → between (bytes ++ rest) ≡ bytes ++ between rest
-between_far [] rest far = refl
-between_far (b ∷ bytes) rest far =
-    let other : b ≢ 39 = λ (is : b ≡ 39). omega (arith, far.0) in
-    between_one b (bytes ++ rest) other
-    ∙ ap (λ (more : List ℕ). b ∷ more) (between_far bytes rest far.1)
+-- a text in which all bytes but one of ASCII stand as they are
+module _ (text_of : List ℕ → List ℕ) (mark : ℕ) (low : mark < 128)
+    (one : (b : ℕ) (rest : List ℕ) → b ≢ mark → text_of (b ∷ rest) ≡ b ∷ text_of rest) where
+  all_far : (bytes rest : List ℕ) → AllFar bytes → text_of (bytes ++ rest) ≡ bytes ++ text_of rest
+  all_far [] rest far = refl
+  all_far (b ∷ bytes) rest far =
+      let other : b ≢ mark = λ (is : b ≡ mark). omega (arith, far.0) in
+      one b (bytes ++ rest) other ∙ ap (λ (more : List ℕ). b ∷ more) (all_far bytes rest far.1)
 
--- a character between quotes is written at once
-pub between_at_once : (c : ℕ) (rest : List ℕ) → c ≢ 39 → between (encode c ++ rest) ≡ encode c ++ between rest
-between_at_once c rest other =
-    ⊎_elim
-    (λ (low : c < 128). subst (λ (bytes : List ℕ). between (bytes ++ rest) ≡ bytes ++ between rest)
-    (sym (encode_ascii c low)) (between_one c rest other))
-    (λ (far : 128 ≤ c). let bytes = far_encode c far in
-    subst (λ (bs : List ℕ). between (bs ++ rest) ≡ bs ++ between rest) (sym bytes.2)
-    (between_far (bytes.0 ∷ bytes.1) rest bytes.3))
-    (cases_lt c 128)
+  -- another character is written at once
+  written_at_once : (c : ℕ) (rest : List ℕ) → c ≢ mark
+      → text_of (encode c ++ rest) ≡ encode c ++ text_of rest
+  written_at_once c rest other =
+      ⊎_elim
+      (λ (low : c < 128). subst (λ (bytes : List ℕ). text_of (bytes ++ rest) ≡ bytes ++ text_of rest)
+      (sym (encode_ascii c low)) (one c rest other))
+      (λ (far : 128 ≤ c). let bytes = far_encode c far in
+      subst (λ (bs : List ℕ). text_of (bs ++ rest) ≡ bs ++ text_of rest) (sym bytes.2)
+      (all_far (bytes.0 ∷ bytes.1) rest bytes.3))
+      (cases_lt c 128)
 
--- a character that is written between quotes
-pub added : (old new whole rest : List ℕ) (bytes : List ℕ) (c : ℕ) → c ≢ 39 → bytes ≡ encode c ++ rest
-    → new ≡ old ++ encode c → old ++ between bytes ≡ whole → new ++ between rest ≡ whole
-added old new whole rest bytes c other same written before =
-    ap (λ (bs : List ℕ). bs ++ between rest) written
-    ∙ append_assoc old (encode c) (between rest)
-    ∙ ap (λ (bs : List ℕ). old ++ bs) (sym (between_at_once c rest other) ∙ ap between (sym same))
-    ∙ before
+  -- a character that is written
+  pub added : (old new whole rest : List ℕ) (bytes : List ℕ) (c : ℕ) → c ≢ mark → bytes ≡ encode c ++ rest
+      → new ≡ old ++ encode c → old ++ text_of bytes ≡ whole → new ++ text_of rest ≡ whole
+  added old new whole rest bytes c other same written before =
+      ap (λ (bs : List ℕ). bs ++ text_of rest) written
+      ∙ append_assoc old (encode c) (text_of rest)
+      ∙ ap (λ (bs : List ℕ). old ++ bs) (sym (written_at_once c rest other) ∙ ap text_of (sym same))
+      ∙ before

@@ -1,10 +1,9 @@
 -- What is hidden of bytes before more follow stays hidden so.
-use Rattle.std.proofs.Common.{◌≡◌, ℕ, zero, suc, ◌≤◌, Bool, true, false, ◌&&◌, List, [], ◌∷◌, ◌++◌, append-nil, append_assoc, arith, ap, subst, sym, ◌∙◌, refl, drop, take, inl, inr, length, max, nat_eq, nat_lt, not, codes}
+use Rattle.std.proofs.Common.{◌≡◌, ℕ, zero, suc, ◌≤◌, Bool, true, false, ◌&&◌, List, [], ◌∷◌, ◌++◌, append-nil, append_assoc, arith, ap, subst, sym, ◌∙◌, refl, drop, inl, inr, length, nat_eq, nat_lt, not, codes}
 use Rattle.std.proofs.lemmas.Bool.{and_right, cases_Bool, cases_eq, eq-eqb, ne_eqb, or_parts}
 use Rattle.std.proofs.lemmas.Bool.Decides.{nat_tests}
 use Rattle.std.proofs.lemmas.List.{drop-append-le}
-use Rattle.std.specs.Cmp.Lexicographic.{pointwise}
-use Rattle.std.specs.List.{list_any, starts_with}
+use Rattle.std.specs.List.{starts_with}
 use Rattle.duct_words.specs.Hidden.{hidden, hidden_behind, is_begun, longest}
 
 -- bytes that are not the beginning of a secret, or all of it, begin with it as do those with more

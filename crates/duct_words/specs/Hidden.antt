@@ -1,5 +1,5 @@
 -- Bytes with `***` in place of secrets, and what a writer that does so passes on.
-use Rattle.std.specs.Prelude.{◌≡◌, ℕ, zero, suc, ◌<◌, List, [], ◌∷◌, ◌++◌, Bool, true, false, ◌&&◌, if◌then◌else◌, codes, length, max, nat_eq, nat_lt, Option}
+use Rattle.std.specs.Prelude.{◌≡◌, ℕ, zero, suc, List, [], ◌∷◌, ◌++◌, Bool, true, ◌&&◌, if◌then◌else◌, codes, length, max, nat_eq, nat_lt, Option}
 use Rattle.std.specs.Io.KnownBytes.{Appends}
 use Rattle.std.specs.List.{list_any, starts_with}
 

@@ -1,5 +1,5 @@
 -- The variables of a text, or the first error in it; and expressions with variables.
-use Rattle.std.specs.Prelude.{◌≡◌, ℕ, ◌+◌, List, [], ◌∷◌, ◌++◌, Bool, true, false, ◌==◌, ◌&&◌, ◌||◌, not, None, Some, Ok, Err, if◌then◌else◌, bytes_eq, codes, drop, find, length, take, Option, Result}
+use Rattle.std.specs.Prelude.{◌≡◌, ℕ, ◌+◌, List, [], ◌∷◌, ◌++◌, Bool, false, ◌==◌, ◌&&◌, ◌||◌, not, None, Some, Ok, Err, if◌then◌else◌, bytes_eq, codes, drop, find, length, take, Option, Result}
 use Rattle.std.specs.Char.{is_ascii_alphanumeric, is_ascii_digit}
 use Rattle.std.specs.List.{list_all, list_any, position_or_len}
 use Rattle.std.specs.Option.{option_map_or}

@@ -1,12 +1,13 @@
 //! Words and command lines of a POSIX shell: the tokens of a text and a text of words, the
-//! expression of a text and a text of an expression, files of variables, and a writer that hides
-//! secrets.
+//! expression of a text and a text of an expression, words that run elsewhere, files of variables,
+//! and a writer that hides secrets.
 #![tactic(auto)]
 
 mod environment;
 mod error;
 mod kind;
 mod lexer;
+mod place;
 mod quoted;
 mod reader;
 mod redacted;
@@ -16,6 +17,7 @@ mod writer;
 pub use environment::{variables, with_variables};
 pub use error::{LineError, ShellTextError, SplitError, VariablesError};
 pub use lexer::split;
+pub use place::{Place, over};
 pub use quoted::quote;
 pub use reader::parse;
 pub use redacted::Redacted;

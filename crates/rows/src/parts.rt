@@ -47,6 +47,7 @@ impl<'t> Parts<'t> {
             ("shows", _) => self.push_shown(text, usize::MAX),
             ("first", _) => self.push_shown(text, 1),
             ("tokens" | "quoted" | "shell", _) => words::push(text, self, key),
+            ("over", place) => words::push_placed(text, self, place),
             ("drawn", _) => plans::push_drawn(text, self),
             ("planned", _) => plans::push_planned(text, self),
             _ => Err(TableError::Text("no such key")),

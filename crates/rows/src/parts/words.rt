@@ -1,8 +1,9 @@
 //! The tokens of texts of a shell, and texts of words and of expressions.
 use crate::parts::Parts;
 use duct::{Error, Stream};
-use duct_words::{ShellTextError, SplitError, Token, quote, shell_text, split};
-use rows_table::{TableError, arguments, written};
+use duct_words::{Place, ShellTextError, SplitError, Token, over, quote, shell_text, split};
+use rows_table::{TableError, arguments, first_word, written};
+use std::alloc::{AllocError, Global};
 
 /// Adds what is said of the text, the arguments or the expression of a row.
 pub fn push(text: &mut String, row: &Parts, key: &str) -> Result<(), TableError> {
@@ -50,4 +51,27 @@ fn push_shell_text(text: &mut String, row: &Parts) -> Result<(), TableError> {
         Err(error) => write!(text, "{error}")?,
     }
     Ok(())
+}
+
+/// Adds the words that run the arguments of a row at a place.
+pub fn push_placed(text: &mut String, row: &Parts, place: &str) -> Result<(), TableError> {
+    let words = arguments(row.alloc, row.text("arguments"))?;
+    for word in &placed(row.alloc, place, words.as_slice())? {
+        write!(text, "{word:?} ")?;
+    }
+    Ok(())
+}
+
+/// Returns the words that run these words at a place.
+fn placed(alloc: Global, place: &str, words: &[String]) -> Result<Vec<String>, AllocError> {
+    match first_word(place) {
+        ("ssh", machine) => over(alloc, &Place::Ssh(machine), words),
+        ("srun", "") => over(alloc, &Place::Srun, words),
+        ("docker", image) => over(alloc, &Place::Docker(image), words),
+        ("systemd-run", "") => over(alloc, &Place::SystemdRun, words),
+        _ => {
+            let before: Vec<&str> = place.split(' ').collect(alloc)?;
+            over(alloc, &Place::Behind(before.as_slice()), words)
+        }
+    }
 }

@@ -1,5 +1,5 @@
 -- The pairs so far, with those of the remaining lines, are those of all.
-use Rattle.std.proofs.Common.{◌≡◌, ◌+◌, drop, map, string_bytes}
+use Rattle.std.proofs.Common.{◌≡◌, ◌+◌, drop, map}
 use Rattle.duct_system.specs.SpecView.{pair_text}
 use Rattle.duct_words.specs.Variables.{variables_of, with_lines}
 use Rattle.duct_words.proofs.environment.variables.Given as goal

@@ -1,5 +1,5 @@
 -- The longest secret so far, or among the remaining ones, is the longest of all.
-use Rattle.std.proofs.Common.{◌≡◌, ◌≤◌, drop, length, map, max}
+use Rattle.std.proofs.Common.{◌≡◌, drop, map, max}
 use Rattle.duct_words.specs.Hidden.{longest}
 use Rattle.duct_words.proofs.redacted.longest.Given as goal
 

@@ -1,4 +1,4 @@
-use Rattle.std.proofs.Common.{◌++◌, ◌∙◌, ap, arith, map, sym}
+use Rattle.std.proofs.Common.{◌++◌, ◌∙◌, ap, map, sym}
 use Rattle.duct_words.specs.Hidden.{hidden}
 use Rattle.duct_words.proofs.Hiding.{shows-byte, shows-secret}
 use Rattle.duct_words.proofs.redacted.push_hidden.Goals as goal
