@@ -1,6 +1,8 @@
-//! Tests of starts on the real machine by two threads: with one pool, and with a host each.
+//! Tests of starts by two threads: with one pool, on the real machine and on scripted systems, and
+//! with a host each.
 use duct::{Clock, Error, Expression, Fault, Pool, System, cmd};
 use duct_host::{Child, End, Host, HostClock};
+use duct_script::{Script, ScriptChild};
 use rows_table::{Real, count_left};
 use std::alloc::Global;
 use std::rt::Clock as Ticks;
@@ -22,7 +24,7 @@ fn emptied<C: duct::Child>(rt: &impl Ticks, pool: &mut Pool<C>) -> bool {
     false
 }
 
-/// How many times each thread starts commands.
+/// How many times each thread starts commands on the real machine.
 const STARTS: u32 = 20;
 
 /// What threads share to start commands.
@@ -33,25 +35,48 @@ trait Starts<R> {
 
 impl<R: Real + Wait> Starts<R> for Mutex<Pool<Child<R>>> {
     fn starts(&self, rt: &R, alloc: Global) -> u32 {
-        let mut well = 0_u32;
-        for _ in 0..STARTS {
-            if start_one(rt, alloc, self).is_ok() {
-                well = well.saturating_add(1);
-            }
+        match rt.clone() {
+            Ok(own) => start_all(rt, alloc, &mut Host::new(own, alloc), self, STARTS),
+            Err(_) => 0,
         }
-        well
     }
 }
 
-/// Starts a command on a host of its own, and gives up its handle.
-fn start_one<R: Real + Wait>(
-    rt: &R,
+impl<R: Wait> Starts<R> for Mutex<Pool<ScriptChild>> {
+    fn starts(&self, rt: &R, alloc: Global) -> u32 {
+        match Script::new(alloc) {
+            Ok(mut sys) => start_all(rt, alloc, &mut sys, self, 10),
+            Err(_) => 0,
+        }
+    }
+}
+
+/// Starts this many commands, and gives up their handles. Returns how many starts succeeded.
+fn start_all<S: System>(
+    rt: &impl Wait,
     alloc: Global,
-    pool: &Mutex<Pool<Child<R>>>,
+    sys: &mut S,
+    pool: &Mutex<Pool<S::Child>>,
+    count: u32,
+) -> u32 {
+    let mut well = 0_u32;
+    for _ in 0..count {
+        if start_one(rt, alloc, sys, pool).is_ok() {
+            well = well.saturating_add(1);
+        }
+    }
+    well
+}
+
+/// Starts a command, and gives up its handle.
+fn start_one<S: System>(
+    rt: &impl Wait,
+    alloc: Global,
+    sys: &mut S,
+    pool: &Mutex<Pool<S::Child>>,
 ) -> Result<(), Error> {
-    let mut host = Host::new(rt.clone()?, alloc);
-    let tree: Expression<End> = cmd!(in alloc; "sleep", "0.01")?;
-    let handle = tree.start(&mut host, &mut *pool.lock(rt))?;
+    let tree: Expression<S::End> = cmd!(in alloc; "sleep", "0.01")?;
+    let handle = tree.start(sys, &mut *pool.lock(rt))?;
     handle.give_up(&mut *pool.lock(rt));
     Ok(())
 }
@@ -78,6 +103,16 @@ fn two_threads_share_a_pool(rt: HostRuntime) -> Result<(), Fail> {
     let told = (well, empty, counts, count_left(&rt)?);
     assert_eq!(rt; told, ((STARTS, STARTS), true, (40, 40, 0), before));
     Ok(())
+}
+
+/// Checks that two threads can share a pool of children that go on running: it keeps all of them.
+#[test]
+fn two_threads_share_a_pool_of_scripted_children(rt: HostRuntime) {
+    let pool: Mutex<Pool<ScriptChild>> = Mutex::new(Pool::new(rt.alloc()));
+    let well = both_start(&rt, rt.alloc(), &pool);
+    let pool = pool.into_inner();
+    let counts = (pool.given(), pool.len(), pool.reaped(), pool.lost());
+    assert_eq!(rt; (well, counts), ((10, 10), (20, 20, 0, 0)));
 }
 
 /// A pipe of two commands that copy an input, whose output is captured. Both of them end at EOF
