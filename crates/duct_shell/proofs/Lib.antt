@@ -1,4 +1,2 @@
-pub mod Asked
-pub mod Explaining
 pub mod Keys
 pub mod Sharing

@@ -16,7 +16,7 @@ use Rattle.duct_handle.specs.HandleView.{HandleView}
 use Rattle.duct.specs.Launched.{IsStart, reading}
 use Rattle.duct.specs.declared.expression.Expression.{Expression}
 use Rattle.duct_shell.specs.Converted.{IsRunAnd}
-use Rattle.duct_shell.specs.FailedRequest.{Names}
+use Rattle.duct_tasks.specs.FailedRequest.{Names}
 use Rattle.duct_tasks.specs.declared.lines.LinesError.{LinesError}
 use Rattle.duct_tasks.specs.declared.lines.LinesError.TheVariants as lines
 use Rattle.duct_shell.specs.declared.failure.Cause.TheVariants as cause

@@ -1,10 +1,12 @@
-//! Runs of a shell whose output is kept, or handed on by lines.
-ghost use Rattle.std.specs.Prelude.{◌≡◌, All, Ok, drop, map, IfOk};
+//! Runs of a shell whose output is kept, or handed on by lines, and services.
+ghost use Rattle.std.specs.Prelude.{◌≡◌, ◌<◌, All, Ok, drop, map, IfOk};
 ghost use Rattle.std.specs.Duration.{as_nanos};
 ghost use Rattle.duct_tasks.specs.Captures.{IsRunCaptured};
 ghost use Rattle.duct_tasks.specs.LinesRun.{IsLinesRun, in_time};
+ghost use Rattle.duct_tasks.specs.Services.{IsAllKept};
 ghost use Rattle.duct_tasks.specs.Statuses.{HasEnded, command_view};
 ghost use Rattle.duct_tasks.specs.Streams.{Hands};
+ghost use Rattle.duct_tasks.specs.Tasks.{IsAllRun, items_of};
 ghost use Rattle.duct_shell.specs.Calls.{Calls, CallsLines, FromNow, IsFailureOf};
 
 use crate::failure::Failure;
@@ -13,7 +15,8 @@ use duct::{Clock, Expression, Hook, System};
 use duct_base::system::Side;
 use duct_system::views::Viewed;
 use duct_tasks::{
-    Captured, Deadline, LateLines, LinesError, Until, run_captured, run_lines, run_lines_until,
+    Captured, Deadline, Finished, Kept, LateLines, LinesError, Progress, Services, Tasks, Turn,
+    Until, keep, run_all, run_captured, run_lines, run_lines_until,
 };
 use std::io;
 use std::sync::Wait;
@@ -43,6 +46,37 @@ impl<S: System, R: Wait, H: Hook> Shell<S, R, H> {
             Err(error) => Err(self.failure(entries, error)),
         }
     }
+
+    /// Keeps expressions running, as the function of this name does, and returns what came of each.
+    /// It blocks until none runs, and none is to be started again.
+    ///
+    /// Fails as the function does, and leaves the same.
+    ///
+    /// Example: `sh.keep(&services, || stops.load(SeqCst), |place, told| print(place, told))?`
+    pub fn keep<C: Clock, F: Fn() -> bool, T: FnMut(usize, Turn<'_>)>(
+        &mut self,
+        services: &Services<'_, S::End, H, C>,
+        stop: F,
+        mut tell: T,
+    ) -> Result<Vec<Kept>, Failure>
+        requires asked { F.IsAlwaysCallable stop }
+        requires told { (t : T) (place : _) (told : _) → T.pre t place told }
+        ensures calls { Calls S.journal_view self.old.keeps_journal
+            (λ before result after. IsAllKept ⟦<S as Viewed>⟧.views C.may_show services.now
+            H.allows H.refuses (F.post stop) before (items_of result) after)
+            (self.old.system, self.old.pool) result (self.new.system, self.new.pool) }
+        ensures stays { self.new
+            ≡ record self.old { system = self.new.system; pool = self.new.pool } }
+    {
+        let entries = begin(&mut self.system, self.keeps_journal);
+        let (system, pool) = (&mut self.system, &mut self.pool);
+        match keep(
+            &self.rt, self.alloc, system, pool, services, stop, &mut tell,
+        ) {
+            Ok(kept) => Ok(kept),
+            Err(error) => Err(self.failure(entries, error)),
+        }
+    }
 }
 
 impl<S: System, R: Threads + Wait, H: Hook> Shell<S, R, H>
@@ -64,7 +98,7 @@ where
         requires { F.IsAlwaysCallable each }
         ensures calls { (last : F) × CallsLines S.journal_view self.old.keeps_journal
             (λ before result after. (grace : Duration) × IsLinesRun ⟦<S as Viewed>⟧.views S.may_read
-            S.Reader.remaining (Hands F.FnMut (Ok tt)) H.allows H.refuses expression.now grace
+            S.Reader.remaining (Hands F.FnMut) H.allows H.refuses expression.now grace
             (λ moment. as_nanos moment ≡ 0) 1 each last before (in_time result) after)
             (self.old.system, self.old.pool) result (self.new.system, self.new.pool) }
         ensures stays { self.new
@@ -97,7 +131,7 @@ where
         requires { F.IsAlwaysCallable each }
         ensures calls { (last : F) × CallsLines S.journal_view self.old.keeps_journal
             (FromNow (C.may_show clock.now) limit (λ shows moment. IsLinesRun
-            ⟦<S as Viewed>⟧.views S.may_read S.Reader.remaining (Hands F.FnMut (Ok tt)) H.allows
+            ⟦<S as Viewed>⟧.views S.may_read S.Reader.remaining (Hands F.FnMut) H.allows
             H.refuses expression.now grace shows moment each last))
             (self.old.system, self.old.pool) result (self.new.system, self.new.pool) }
         ensures stays { self.new
@@ -114,6 +148,39 @@ where
         match run_lines_until(&self.rt, system, pool, expression, &deadline, &mut each) {
             Ok(until) => Ok(until),
             Err(error) => Err(self.lines_failure(entries, error)),
+        }
+    }
+}
+
+impl<S: System, R: Threads + Wait, H: Hook> Shell<S, R, H>
+where
+    S::Reader: Send + 'static,
+{
+    /// Runs expressions as tasks, as the function of this name does, and returns what came of each.
+    /// It blocks until none runs.
+    ///
+    /// Fails as the function does, and leaves the same.
+    ///
+    /// Example: `sh.run_all(tasks, |place, told| print(place, told))?`
+    pub fn run_all<C: Clock, T: FnMut(usize, Progress<'_>)>(
+        &mut self,
+        tasks: Tasks<'_, S::End, H, C>,
+        mut tell: T,
+    ) -> Result<Vec<Finished>, Failure>
+        requires some { 0 < tasks.at_once }
+        requires told { (t : T) (place : _) (told : _) → T.pre t place told }
+        ensures calls { Calls S.journal_view self.old.keeps_journal
+            (λ before result after. IsAllRun ⟦<S as Viewed>⟧.views S.may_read S.Reader.remaining
+            H.allows H.refuses C.may_show tasks.entry before (items_of result) after)
+            (self.old.system, self.old.pool) result (self.new.system, self.new.pool) }
+        ensures stays { self.new
+            ≡ record self.old { system = self.new.system; pool = self.new.pool } }
+    {
+        let entries = begin(&mut self.system, self.keeps_journal);
+        let (system, pool) = (&mut self.system, &mut self.pool);
+        match run_all(&self.rt, self.alloc, system, pool, tasks, &mut tell) {
+            Ok(ends) => Ok(ends),
+            Err(error) => Err(self.failure(entries, error)),
         }
     }
 }

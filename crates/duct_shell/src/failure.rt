@@ -5,12 +5,11 @@ ghost use Rattle.std.specs.declared.io.Error as io;
 ghost use Rattle.duct_system.specs.EntryView.{entry_view};
 ghost use Rattle.duct_system.specs.declared.error.Error.TheVariants.{Memory, System};
 ghost use Rattle.duct_shell.specs.Converted.{io_kind, lines_cause};
-ghost use Rattle.duct_shell.specs.FailedRequest.{Names};
+ghost use Rattle.duct_tasks.specs.FailedRequest.{Names};
 ghost use Rattle.duct_shell.specs.declared.failure.Cause.TheVariants as cause;
 
-use crate::request::request_text;
 use duct::{Entry, Error, Fault};
-use duct_tasks::{FailedRun, LateLines, LinesError};
+use duct_tasks::{FailedRun, LateLines, LinesError, request_text};
 use std::alloc::{AllocError, AllocFailed, Global};
 use std::env::VarError;
 use std::io::ErrorKind;

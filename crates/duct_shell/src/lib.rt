@@ -23,14 +23,12 @@ mod captured;
 mod chain;
 mod failure;
 mod jobs;
-mod request;
 mod shell;
 mod threads;
 
 pub use chain::{Chain, ChainSettings};
 pub use failure::{Cause, Failure};
 pub use jobs::Job;
-pub use request::{failed_request, failed_starts, reason, request_text};
 pub use shell::Shell;
 pub use threads::SharedHandle;
 
@@ -38,8 +36,9 @@ pub use threads::SharedHandle;
 pub use duct::{Clock, Error, ExitStatus, Expression, Handle, Output, ReaderHandle, System};
 pub use duct_base::text::{EntryText, RequestText, write_arguments};
 pub use duct_tasks::{
-    Captured, CommandStatus, FailedRun, Late, LateLines, Until, command_statuses, last_lines,
-    run_captured,
+    AtFailure, Captured, CommandStatus, FailedRun, Finished, Kept, Late, LateLines, Progress,
+    Restarts, Services, TaskEnd, Tasks, Turn, Until, Why, command_statuses, failed_request,
+    failed_starts, last_lines, reason, request_text, run_captured,
 };
 
 /// A command: `cmd!(sh; program, arg, ..)` is `sh.cmd(program, &[arg, ..])`. A trailing comma is

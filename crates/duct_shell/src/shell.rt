@@ -9,7 +9,7 @@ ghost use Rattle.duct.specs.Launched.{IsRead, IsRun, IsStart, draining};
 ghost use Rattle.duct.specs.TreeView.{tree_view};
 ghost use Rattle.duct_tasks.specs.Until.{IsRunUntil};
 ghost use Rattle.duct_shell.specs.Calls.{Begins, Calls, FromNow, IsReader};
-ghost use Rattle.duct_shell.specs.FailedRequest.{Names};
+ghost use Rattle.duct_tasks.specs.FailedRequest.{Names};
 ghost use Rattle.duct_shell.specs.Jobs.{AreAllGiven};
 ghost use Rattle.duct_shell.specs.declared.failure.Cause.TheVariants as cause;
 

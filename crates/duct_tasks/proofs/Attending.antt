@@ -1,11 +1,13 @@
 -- Runs whose lines are handed on: what each of their ends is, by what was started.
-use Rattle.std.proofs.Common.{ℕ, List, Err, Option, inr}
+use Rattle.std.proofs.Common.{ℕ, List, Err, Option, Result, inr}
+use Rattle.std.specs.declared.io.Error as io
 use Rattle.std.specs.declared.time.Duration.{Duration}
 use Rattle.duct_system.specs.declared.system.Side.{Side}
 use Rattle.duct.specs.Launched.{RunsRead, reading}
 use Rattle.duct_tasks.proofs.Common.{Allows, Bytes, Expression, Launched, LaunchStopped, MadeBy, PoolView, Refuses, RunningView, RunsAlike, SystemViews, added_between, tree_view}
 use Rattle.duct_tasks.proofs.Ending.{takes_stopped, was_stopped}
 use Rattle.duct_tasks.specs.LinesRun.{RunsInside}
+use Rattle.duct_tasks.specs.Streams.{FailedBy}
 use Rattle.duct_tasks.specs.Until.{StopsAndGives}
 use Rattle.duct_tasks.specs.declared.late.Late.{Late}
 use Rattle.duct_tasks.specs.declared.lines.LinesError.{LinesError}
@@ -36,15 +38,16 @@ module _ {S E C F D : Type 0} (views : SystemViews S E C F D (Unit {0}) Bytes) {
 
 module _ {S E C F D : Type 0} (views : SystemViews S E C F D (Unit {0}) Bytes) {R : Type 0}
     (may : ℕ → R → Type 0) (remaining : R → Option (List ℕ)) {G : Type 0}
-    (Step : G → Side × List ℕ → G → Type 0) {H : Type 0} (allows : Allows H)
-    (refuses : Refuses H) (root : Expression E H) (grace : Duration) (shows : Duration → Type 0)
-    (moment : ℕ) where
+    (Gives : Result (Unit {0}) io.Error → G → Side × List ℕ → G → Type 0) {H : Type 0}
+    (allows : Allows H) (refuses : Refuses H) (root : Expression E H) (grace : Duration)
+    (shows : Duration → Type 0) (moment : ℕ) where
   -- an error for which the expression was stopped
   pub stops_inside : (g g' : G) (piped : S × PoolView C) (inside : Expression E H) (err : R)
-      (e : LinesError) (after : S × PoolView C) (late : Late)
+      (e : LinesError) (after : S × PoolView C) (late : Late) → FailedBy Gives e g'
       → LaunchStopped views allows refuses reading (λ polled kind tree added. Unit {0}) inside
       piped after late
-      → RunsInside views may remaining Step allows refuses root grace shows moment g g' piped
+      → RunsInside views may remaining Gives allows refuses root grace shows moment g g' piped
       inside err (Err e) after
-  stops_inside g g' piped inside err (lines.Run e) after late stopped = inr (late, stopped)
-  stops_inside g g' piped inside err (lines.Closure e) after late stopped = (late, stopped)
+  stops_inside g g' piped inside err (lines.Run e) after late by stopped = inr (late, stopped)
+  stops_inside g g' piped inside err (lines.Closure e) after late by stopped =
+      (by, late, stopped)

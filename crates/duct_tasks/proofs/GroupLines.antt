@@ -1,11 +1,11 @@
 -- How many children the runs of lines give to a pool, and lines after lines.
-use Rattle.std.proofs.Common.{◌≡◌, ◌+◌, ◌∙◌, ap, sym, subst, inl, inr, ℕ, ℤ, pos, Bool, List, [], ◌∷◌, ◌++◌, Ok, Err, Some, None, Option, Result}
+use Rattle.std.proofs.Common.{◌≡◌, ◌+◌, ◌∙◌, ap, sym, subst, inl, inr, ℕ, ℤ, Bool, List, [], ◌∷◌, ◌++◌, Ok, Err, Some, None, Option, Result}
 use Rattle.duct_base.proofs.Sieving.{counted_more}
 use Rattle.duct_system.specs.declared.system.Output.{Output}
-use Rattle.duct_tasks.proofs.Common.{FoldsTo, PoolView, counted, Error, Allows, Refuses, SystemViews, Bytes, IsRun, Expression, ShapeView, Stops, TaskTries}
+use Rattle.duct_tasks.proofs.Common.{FoldsTo, PoolView, counted, Error, Allows, Refuses, SystemViews, Bytes, IsRun, Expression, ShapeView}
 use Rattle.duct_tasks.specs.Groups.{InTurnTried, SignalsGroups, TriedIfLed, Tries}
 
-folds_on : {P A : Type 0} (R : P → A → P → Type 0) (p : P) (xs : List A) (m : P) (ys : List A) (q : P)
+pub folds_on : {P A : Type 0} (R : P → A → P → Type 0) (p : P) (xs : List A) (m : P) (ys : List A) (q : P)
     → FoldsTo R p xs m → FoldsTo R m ys q → FoldsTo R p (xs ++ ys) q
 folds_on {P} {A} R p [] m ys q same more = subst (λ (x : P). FoldsTo R x ys q) (sym same) more
 folds_on R p (x ∷ xs) m ys q first more =
@@ -56,22 +56,3 @@ module _ {S E C F D : Type 0} (views : SystemViews S E C F D (Unit {0}) Bytes) {
       → Gives before after
   signals_give signal s processes tries before after signals =
       in_turn_gives signal tries processes before after signals.tried
-
-  -- the same of stops of tasks
-  pub stops_given : (stops : List TaskTries) (before after : S × PoolView C)
-      → FoldsTo (λ from stop to. SignalsGroups views allows refuses (pos 15) stop.shape
-      stop.processes stop.tries from to) before stops after
-      → Gives before after
-  stops_given [] before after same = gives_none before after (sym same)
-  stops_given (stop ∷ stops) before after first =
-      gives_on before first.0 after
-      (signals_give (pos 15) stop.shape stop.processes stop.tries before first.0 first.1)
-      (stops_given stops first.0 after first.2)
-
-  pub stops_on : (one two three : S × PoolView C) → Stops views allows refuses one two
-      → Stops views allows refuses two three → Stops views allows refuses one three
-  stops_on one two three first second = (
-    first.0 ++ second.0,
-    folds_on (λ from stop to. SignalsGroups views allows refuses (pos 15) stop.shape stop.processes
-        stop.tries from to) one first.0 two second.0 three first.1 second.1,
-  )

@@ -5,8 +5,9 @@ use Rattle.std.specs.Fn.{Mut}
 use Rattle.std.specs.declared.io.Error.{Error}
 use Rattle.duct_system.specs.declared.system.Side.{Side}
 use Rattle.duct_tasks.proofs.Lining.{none_told}
-use Rattle.duct_tasks.specs.Streams.{GivesLines, Handed, Hands, HandsUnless, ReadsBoth}
+use Rattle.duct_tasks.specs.Streams.{FailedBy, GivesLines, Handed, Hands, HandsUnless, ReadsBoth}
 use Rattle.duct_tasks.specs.declared.lines.BothLines.{BothLines}
+use Rattle.duct_tasks.specs.declared.lines.LinesError.{LinesError}
 
 module _ {R F : Type 0} (remaining : R → Option (List ℕ))
     (calls : Mut F (Side × (Bor (List ℕ) × Unit {0})) (Result (Unit {0}) Error)) where
@@ -25,7 +26,7 @@ module _ {R F : Type 0} (remaining : R → Option (List ℕ))
         told_err = both.err.told;
         output = reads.output.gave;
         error = reads.error.gave;
-        handed = subst (λ (o : _). HandsUnless (Hands calls (Ok tt)) o f f' both.out.bytes.items
+        handed = subst (λ (o : _). HandsUnless (Hands calls) o f f' both.out.bytes.items
             both.out.told both.err.bytes.items both.err.told) is handed;
         ends = λ yes. let ends = reads.ends (is ∙ ap Ok yes) in
             (reads.output.ended ends.0, reads.error.ended ends.1);
@@ -37,10 +38,17 @@ module _ {R F : Type 0} (remaining : R → Option (List ℕ))
   handed_none both f reads is no_out no_err =
       let told : both.out.told ≡ 0 = omega (arith, reads.output.fits, ap length no_out) in
       let told_err : both.err.told ≡ 0 = omega (arith, reads.error.fits, ap length no_err) in
-      subst (λ (o : _). HandsUnless (Hands calls (Ok tt)) o f f both.out.bytes.items both.out.told
+      subst (λ (o : _). HandsUnless (Hands calls) o f f both.out.bytes.items both.out.told
       both.err.bytes.items both.err.told) (sym is)
       (none_told (Hands calls (Ok tt)) f both.out.bytes.items both.err.bytes.items
       both.out.told both.err.told no_out no_err told told_err)
+
+  -- where no more is read because of the closure's error, its last call returned that
+  pub failed_by : (both : BothLines R) (f f' : F) (e : LinesError) → Handed calls both f f'
+      → both.over ≡ Err e → FailedBy (Hands calls) e f'
+  failed_by both f f' e handed is =
+      subst (λ (o : _). HandsUnless (Hands calls) o f f' both.out.bytes.items both.out.told
+      both.err.bytes.items both.err.told) is handed
 
 -- what has not failed had not failed before
 pub ok_before : {T E : Type 0} (before after : Result T E) → (IsErr before → IsErr after)

@@ -1,217 +1,245 @@
--- What runs until it has ended or is stopped, and is then started again.
+-- Services that take turns, one thing after another.
+use Rattle.std.proofs.Common.{◌≡◌, ◌<◌, ◌∙◌, refl, sym, subst, arith, inl, inr, ℕ, zero, suc, Bool, true, false, List, [], ◌∷◌, ◌++◌, All, length, map, get_or, set, slice_get, Some}
+use Rattle.std.proofs.lemmas.Option.{slice_get_read}
 use Rattle.std.specs.declared.time.Duration.{Duration}
-use Rattle.std.proofs.Common.{◌≡◌, ◌+◌, ◌<◌, ◌≤◌, refl, ap, sym, ◌∙◌, subst, inl, inr, arith, ℕ, suc, Bool, true, false, if◌then◌else◌, length, List, pos, IfNone, Some, None, Option}
-use Rattle.duct_base.proofs.Sieving.{counted_more}
-use Rattle.duct_tasks.proofs.Common.{PoolView, counted, Allows, Refuses, RunningView, SystemViews, numbers_of, Bytes, Expression, InSuccession, IsHalted, IsIdle, IsLast, IsWhy, Keeps, RanAs, StoppedIf, Turn, WhyAfter, gives, is_stopped, last_of, End, HasOrders, HasPassed, RunsAlike, GaveUp, Stopped, Running, NumbersView, ShapeView, added_between}
+use Rattle.duct_tasks.proofs.Common.{All-head, All-tail, AllZip, Allows, Bytes, Expression, PoolView, Refuses, RunningView, SystemViews}
+use Rattle.duct_tasks.proofs.EachAttempt.{each_step}
+use Rattle.duct_tasks.proofs.GroupLines.{folds_on}
+use Rattle.duct_tasks.specs.Services.{Advances, CameTo, Deed, Goes, IsAt, IsDeed, IsFresh, IsKept, IsTurn, KeepsAll, MayLeave, MayStart, Stand, StandsAt, fresh}
+use Rattle.duct_tasks.specs.Services.Deed.{asks, ends, halts, leaves, refused, starts}
 use Rattle.duct_tasks.specs.declared.keeper.Kept.{Kept}
 use Rattle.duct_tasks.specs.declared.keeper.Restarts.{Restarts}
+use Rattle.duct_tasks.specs.declared.keeper.Services.{Services}
 use Rattle.duct_tasks.specs.declared.keeper.Why.{Why}
-use Rattle.duct_tasks.specs.declared.once.Run.{Run}
-use Rattle.duct_tasks.specs.declared.once.Run.TheVariants as run
-use Rattle.duct_system.specs.Started.{children_in}
-use Rattle.duct_tasks.proofs.GroupLines.{Gives, gives_on, signals_give}
-use Rattle.duct_tasks.proofs.Turning.{began_on, ends_with}
+use Rattle.duct_tasks.specs.declared.keeper.Why.TheVariants.{Failed, GaveUp, Stopped}
+use Rattle.duct_tasks.specs.declared.service.Service.{Service}
+use Rattle.duct_tasks.specs.declared.service.State.{State}
+use Rattle.duct_tasks.specs.declared.service.State.TheVariants as state
 
--- nothing runs after a run that leaves a further start
-is_idle : (one : Run) (why : Why) (starts : ℕ) → WhyAfter one why → why ≡ GaveUp → IsIdle starts
-    (last_of one)
-is_idle (run.Stopped last) why starts after is = absurd (cc)
-is_idle (run.Ended end) why starts after is = elim after [
-  | inl over ↦ over.1
-  | inr fails ↦ absurd (let failed = fails.0 in cc)
-]
-
--- it was not stopped
-ends_unstopped : (one : Run) (why : Why) → WhyAfter one why → why ≡ GaveUp → is_stopped one ≡ false
-ends_unstopped (run.Stopped last) why after is = absurd (cc)
-ends_unstopped (run.Ended end) why after is = refl
-
--- one that was stopped says so
-stops : (one : Run) (why : Why) → WhyAfter one why → is_stopped one ≡ true → why ≡ Stopped
-stops (run.Stopped last) why after is = after
-stops (run.Ended end) why after is = absurd (cc)
-
--- where nothing runs after some starts, it is known how the last one ended
-ended_before : (P : Type 0) (starts : ℕ) (last : Option End) → 0 < starts → IsIdle starts last →
-    IfNone last P
-ended_before P starts None some idle = absurd (omega (arith, some, idle))
-ended_before P starts (Some end) some idle = tt
-
--- why there is no start after a run that leaves none
-is_why : (most : ℕ) (says : Bool → Type 0) (one : Run) (why : Why) (starts : ℕ) → WhyAfter one why
-    → (why ≡ GaveUp → ⊥) → StoppedIf (says true) one → IsWhy most says why starts (last_of one)
-is_why most says (run.Stopped last) why starts after off stop =
-    subst (λ (w : Why). IsWhy most says w starts last) (sym after) stop
-is_why most says (run.Ended end) why starts after off stop = elim after [
-  | inl over ↦ absurd (off over.0)
-  | inr fails ↦ subst (λ (w : Why). IsWhy most says w starts (Some end)) (sym fails.0)
-      (fails.1, ap (λ (x : End). Some x) fails.2, fails.3)
-]
-
-module _ {S E C F D : Type 0} (views : SystemViews S E C F D (Unit {0}) Bytes) {H : Type 0}
-    (allows : Allows H) (refuses : Refuses H) (root : Expression E H) where
-  -- what was started ended
-  pub ran_on : (running waited : RunningView C F D) (end : End) (sys left : S)
-      {had between has more : ℕ}
-      → (own : ℕ) × Turn views allows refuses false root (Running running) own sys left ×
-      (between ≡ counted had own)
-      → RunsAlike views running waited → IsLast views false end waited
-      → more ≡ (if gives (Some end) then length (numbers_of views waited).children else 0)
-      → has ≡ counted between more
-      → (all : ℕ) × RanAs views allows refuses root false (Some end) all sys left ×
-      (has ≡ counted had all)
-  ran_on running waited end sys left {had} {between} {has} {more} (own, turn, first) alike
-      ends count second = (
-        own + more,
-        ends_with views allows refuses false root end sys left waited own more turn.2
-            (began_on views allows refuses root sys left running waited alike turn.0) ends count,
-        second ∙ ap (λ n. counted n more) first ∙ counted_more had own more,
+module _ {X Y : Type 0} (P : X → Y → Type 0) where
+  -- what holds at a place, and of others in that place
+  zip_at : (xs : List X) (ys : List Y) (at : ℕ) (x : X) → x ≡ get_or xs at x → at < length xs
+      → AllZip P xs ys
+      → (y : Y) × (slice_get ys at ≡ Some y) × P x y
+      × ((new : X) (left : Y) → P new left → AllZip P (set xs at new) (set ys at left))
+      × ((new : X) → P new y → AllZip P (set xs at new) ys)
+  zip_at [] [] at x is some all = absurd (omega (arith, some))
+  zip_at [] (y ∷ ys) at x is some all = absurd all
+  zip_at (first ∷ xs) [] at x is some all = absurd all
+  zip_at (first ∷ xs) (y ∷ ys) zero x is some all = (
+    y,
+    refl,
+    subst (λ (it : X). P it y) (sym is) all.0,
+    λ new left holds. (holds, all.1),
+    λ new holds. (holds, all.1),
+  )
+  zip_at (first ∷ xs) (y ∷ ys) (suc at) x is some all =
+      let rest = zip_at xs ys at x is (omega (arith, some)) all.1 in (
+        rest.0,
+        rest.1,
+        rest.2,
+        λ new left holds. (all.0, rest.3 new left holds),
+        λ new holds. (all.0, rest.4 new holds),
       )
 
-  -- what halts
-  module _ (begun : S × PoolView C) (running : RunningView C F D) (after : S × PoolView C)
-      (left : RunningView C F D) where
-    halted_alike : (last : Option End)
-        → IsHalted views allows refuses last begun running after left
-        → RunsAlike views running left
-    halted_alike (Some end) halted =
-        subst (λ (r : RunningView C F D). RunsAlike views running r) (sym halted.ended.0)
-        halted.alike
-    halted_alike None halted = halted.killed.1 ∙ halted.alike
+  -- one more
+  pub zip_more : (xs : List X) (ys : List Y) (x : X) (y : Y) → AllZip P xs ys → P x y
+      → AllZip P (xs ++ x ∷ []) (ys ++ y ∷ [])
+  zip_more [] [] x y all one = (one, tt)
+  zip_more [] (b ∷ ys) x y all one = absurd all
+  zip_more (a ∷ xs) [] x y all one = absurd all
+  zip_more (a ∷ xs) (b ∷ ys) x y all one = (all.0, zip_more xs ys x y all.1 one)
 
-    halted_gives : (last : Option End)
-        → IsHalted views allows refuses last begun running after left
-        → Gives views allows refuses begun after
-    halted_gives (Some end) halted = gives_on views allows refuses begun halted.between after
-        (signals_give views allows refuses (pos 15) _ _ halted.tries begun halted.between
-        halted.signals) (signals_give views allows refuses (pos 9) _ _ halted.kills halted.between
-        after halted.ended.1)
-    halted_gives None halted = gives_on views allows refuses begun halted.between after
-        (signals_give views allows refuses (pos 15) _ _ halted.tries begun halted.between
-        halted.signals) (signals_give views allows refuses (pos 9) _ _ halted.kills halted.between
-        after halted.killed.2.signals)
+module _ (restarts : Restarts) (P Q : Bool → Type 0) (on : (b : Bool) → P b → Q b)
+    (shows : Duration → Type 0) where
+  start_on : (from : Stand) → MayStart restarts P shows from → MayStart restarts Q shows from
+  start_on from may = record {
+    idle = may.idle;
+    few = may.few;
+    asked = on false may.asked;
+    rested = may.rested;
+  }
 
-    -- what was started was stopped
-    pub was_halted : (last : Option End) (sys : S) (first : RunningView C F D) {had has more : ℕ}
-        → (own : ℕ) × Turn views allows refuses false root (Running first) own sys begun.0 ×
-        (begun.1.given ≡ counted had own)
-        → RunsAlike views first running → HasOrders views false running
-        → IsHalted views allows refuses last begun running after left
-        → more ≡ (if gives last then length (numbers_of views left).children else 0)
-        → has ≡ counted after.1.given more
-        → (all : ℕ) × RanAs views allows refuses root true last all sys after.0 ×
-        (has ≡ counted had all)
-    was_halted last sys first {had} {has} {more} (own, turn, begins) alike unordered halted count
-        second =
-        let began = began_on views allows refuses root sys begun.0 first running alike turn.0 in
-        let lines = halted_gives last halted in
-        let numbers : (numbers_of views left).children
-        ≡ children_in (added_between views sys begun.0) =
-        ap (λ (s : ShapeView × NumbersView). s.1.children) (halted_alike last halted)
-        ∙ began.are_numbers.children_are in
-        let none : own ≡ 0 = turn.2 in (
-          lines.0 + more,
-          record {
-            begun = begun;
-            ended = after.1;
-            running = running;
-            left = left;
-            began = began;
-            unordered = unordered;
-            halted = halted;
-            lines = lines.0;
-            lines_are = lines.1;
-            given_is = ap (λ (n : ℕ). lines.0 + n) (count
-                ∙ ap (λ (l : List ℕ). if gives last then length l else 0) numbers);
-          },
-          second ∙ ap (λ (n : ℕ). counted n more) lines.1
-              ∙ counted_more begun.1.given lines.0 more
-              ∙ ap (λ (n : ℕ). counted n (lines.0 + more))
-              (begins ∙ ap (λ (n : ℕ). counted had n) none),
-        )
+  leave_on : (why : Why) (from : Stand) → MayLeave restarts P shows why from
+      → MayLeave restarts Q shows why from
+  leave_on Stopped from may = on true may
+  leave_on GaveUp from may = may
+  leave_on Failed from may = absurd may
 
-  module _ (says : Bool → Type 0) (first : S) (old : PoolView C) where
-    -- what was done before a start
-    pub record SoFar (starts : ℕ) (last : Option End) (sys : S) (pool : PoolView C) : Type 0 where
-      pub given : ℕ
-      pub runs : InSuccession views allows refuses root false starts last given first sys
-      pub idle : IsIdle starts last
-      pub counts : pool.given ≡ counted old.given given
-      pub asked : 0 < starts → says false
+module _ {S E C F D : Type 0} (views : SystemViews S E C F D (Unit {0}) Bytes) (restarts : Restarts)
+    (shows : Duration → Type 0) where
+  fresh_at : (service : Service (RunningView C F D)) → IsFresh service
+      → IsAt views restarts shows service fresh
+  fresh_at service is = record {
+    starts = is.0;
+    row = is.1;
+    last = is.3;
+    pause = is.2;
+    at = subst (λ (s : State (RunningView C F D)). StandsAt views restarts shows service.pause s fresh)
+        (sym is.4.1) (refl, λ some. absurd (omega (arith, some)));
+  }
 
-    pub nothing : SoFar 0 None first old
-    nothing = record {
-      given = 0;
-      runs = (refl, refl, refl);
-      idle = refl;
-      counts = refl;
-      asked = λ some. absurd (omega (arith, some));
+  all_fresh : {T : Type 0} (services : List (Service (RunningView C F D))) (all : List T)
+      → length services ≡ length all → All IsFresh services
+      → AllZip (IsAt views restarts shows) services (map (λ root. fresh) all)
+  all_fresh [] [] count are = tt
+  all_fresh [] (root ∷ all) count are = absurd (omega (arith, count))
+  all_fresh (service ∷ services) [] count are = absurd (omega (arith, count))
+  all_fresh (service ∷ services) (root ∷ all) count are = (
+    fresh_at service (All-head IsFresh service services are),
+    all_fresh services all (omega (arith, count)) (All-tail IsFresh service services are),
+  )
+
+  kept_at : (service : Service (RunningView C F D)) (stand : Stand) (kept : Kept)
+      → IsAt views restarts shows service stand → CameTo service kept → IsKept stand kept
+  kept_at service stand kept is came = (
+    came.0 ∙ is.starts,
+    subst (λ (s : State (RunningView C F D)). StandsAt views restarts shows service.pause s stand)
+        came.1 is.at,
+    came.2 ∙ is.last,
+  )
+
+  all_kept : (services : List (Service (RunningView C F D))) (stands : List Stand) (kept : List Kept)
+      → AllZip (IsAt views restarts shows) services stands → AllZip CameTo services kept
+      → AllZip IsKept stands kept
+  all_kept [] [] [] are came = tt
+  all_kept [] [] (k ∷ kept) are came = absurd came
+  all_kept [] (stand ∷ stands) kept are came = absurd are
+  all_kept (service ∷ services) [] kept are came = absurd are
+  all_kept (service ∷ services) (stand ∷ stands) [] are came = absurd came
+  all_kept (service ∷ services) (stand ∷ stands) (k ∷ kept) are came = (
+    kept_at service stand k are.0 came.0,
+    all_kept services stands kept are.1 came.1,
+  )
+
+module _ {S E C F D : Type 0} (views : SystemViews S E C F D (Unit {0}) Bytes) {H : Type 0}
+    (allows : Allows H) (refuses : Refuses H) {K : Type 0} (may_show : K → Duration → Type 0)
+    (services : Services E H K) where
+  module _ (P Q : Bool → Type 0) (on : (b : Bool) → P b → Q b) where
+    deed_on : (root : Expression E H) (before : S × PoolView C) (from : Stand) (deed : Deed C F D)
+        (after : S × PoolView C) (to : Stand)
+        → IsDeed views allows refuses services.restarts P (may_show services.clock.now) root before
+        from deed after to
+        → IsDeed views allows refuses services.restarts Q (may_show services.clock.now) root before
+        from deed after to
+    deed_on root before from (starts running) after to is =
+        (start_on services.restarts P Q on _ from is.0, is.1, is.2)
+    deed_on root before from (refused e none) after to is =
+        (start_on services.restarts P Q on _ from is.0, is.1, is.2, is.3)
+    deed_on root before from (ends end waited is_healthy) after to is = is
+    deed_on root before from (asks ran tries) after to is = (on true is.0, is.1, is.2, is.3)
+    deed_on root before from (halts late killed tries) after to is = is
+    deed_on root before from (leaves why) after to is =
+        (is.0, leave_on services.restarts P Q on (may_show services.clock.now) why from is.1, is.2, is.3)
+
+    turn_on : (before : (S × PoolView C) × List Stand) (turn : ℕ × Deed C F D)
+        (after : (S × PoolView C) × List Stand)
+        → IsTurn views allows refuses services.restarts P (may_show services.clock.now)
+        services.all.now before turn after
+        → IsTurn views allows refuses services.restarts Q (may_show services.clock.now)
+        services.all.now before turn after
+    turn_on before turn after is = record {
+      root = is.root;
+      root_is = is.root_is;
+      from = is.from;
+      from_is = is.from_is;
+      to = is.to;
+      to_is = is.to_is;
+      deed = deed_on is.root before.0 is.from turn.1 after.0 is.to is.deed;
     }
 
-    module _ (starts : ℕ) (last : Option End) (sys : S) (pool : PoolView C)
-        (before : SoFar starts last sys pool)
-        (restarts : Restarts) (shows : Duration → Type 0) where
-      pub over : (why : Why) → starts ≤ restarts.most → IsWhy restarts.most says why starts last
-          → Keeps views allows refuses root restarts says shows (first, old)
-          (record { starts = starts; why = why; last = last }) (sys, pool)
-      over why few is = record {
-        few = few;
-        given = before.given;
-        sent = false;
-        runs = before.runs;
-        pool = before.counts;
-        asked = before.asked;
-        why = is;
-        orders = λ no. absurd (cc);
-        patient = λ some. ended_before (HasPassed shows restarts.grace) starts last some
-            before.idle;
-      }
+    -- what is done because of one answer is done because of what follows from it
+    pub goes_lifted : (before after : S × PoolView C) (olds news : List (Service (RunningView C F D)))
+        → Goes views may_show services allows refuses P before olds after news
+        → Goes views may_show services allows refuses Q before olds after news
+    goes_lifted before after olds news goes from all =
+        let went = goes from all in (
+          went.0,
+          went.1,
+          went.2,
+          each_step (IsTurn views allows refuses services.restarts P (may_show services.clock.now)
+              services.all.now) (IsTurn views allows refuses services.restarts Q
+              (may_show services.clock.now) services.all.now) turn_on (before, from) went.2
+              (after, went.0) went.3,
+        )
 
-      module _ (one : Run) (left : S) (kept : PoolView C) (no : says false)
-          (ran : (own : ℕ) × RanAs views allows refuses root (is_stopped one) (last_of one) own
-          sys left × (kept.given ≡ counted pool.given own))
-          (now : Kept) (count : now.starts ≡ starts + 1) (is : now.last ≡ last_of one)
-          (why : WhyAfter one now.why) where
-        runs : InSuccession views allows refuses root (is_stopped one) now.starts now.last
-            (before.given + ran.0) first left
-        runs =
-            let same : suc starts ≡ now.starts = omega (arith, count) in
-            let own : RanAs views allows refuses root (is_stopped one) now.last ran.0 sys left =
-            subst (λ (l : Option End). RanAs views allows refuses root (is_stopped one) l ran.0
-            sys left) (sym is) ran.1 in
-            subst (λ (n : ℕ). InSuccession views allows refuses root (is_stopped one) n now.last
-            (before.given + ran.0) first left) same
-            (last, before.given, sys, before.runs, before.idle, ran.0, own, refl)
+  module _ (says : Bool → Type 0) where
+    -- nothing is done
+    pub goes_none : (before : S × PoolView C) (olds : List (Service (RunningView C F D)))
+        → Goes views may_show services allows refuses says before olds before olds
+    goes_none before olds from all = (from, all, [], refl)
 
-        counts : kept.given ≡ counted old.given (before.given + ran.0)
-        counts = ran.2 ∙ ap (λ (n : ℕ). counted n ran.0) before.counts ∙ counted_more old.given
-            before.given ran.0
+    -- something is done, and then more
+    pub goes_then : (before mid after : S × PoolView C)
+        (olds mids news : List (Service (RunningView C F D)))
+        → Goes views may_show services allows refuses says before olds mid mids
+        → Goes views may_show services allows refuses says mid mids after news
+        → Goes views may_show services allows refuses says before olds after news
+    goes_then before mid after olds mids news first second from all =
+        let one = first from all in
+        let two = second one.0 one.1 in (
+          two.0,
+          two.1,
+          one.2 ++ two.2,
+          folds_on (IsTurn views allows refuses services.restarts says
+              (may_show services.clock.now) services.all.now) (before, from) one.2 (mid, one.0) two.2
+              (after, two.0) one.3 two.3,
+        )
 
-        pub goes_on : now.why ≡ GaveUp → SoFar now.starts now.last left kept
-        goes_on on = record {
-          given = before.given + ran.0;
-          runs = subst (λ (sent : Bool). InSuccession views allows refuses root sent now.starts
-              now.last (before.given + ran.0) first left)
-              (ends_unstopped one now.why why on) runs;
-          idle = subst (λ (l : Option End). IsIdle now.starts l) (sym is)
-              (is_idle one now.why now.starts why on);
-          counts = counts;
-          asked = λ some. no;
-        }
+    -- one service has a turn
+    pub goes_one : (at : ℕ) (before after : S × PoolView C)
+        (olds : List (Service (RunningView C F D))) (old new : Service (RunningView C F D))
+        (root : Expression E H) → old ≡ get_or olds at old → at < length olds
+        → root ≡ get_or services.all.now at root → length olds ≡ length services.all.now
+        → Advances views may_show services allows refuses says root before old after new
+        → Goes views may_show services allows refuses says before olds after (set olds at new)
+    goes_one at before after olds old new root is some is_root count advances from all =
+        let one = zip_at (IsAt views services.restarts (may_show services.clock.now)) olds from at old
+        is some all in
+        let made = advances one.0 one.2 in
+        elim made.2 [
+          | inl same ↦ (
+            from,
+            one.4 new (subst (λ (to : Stand). IsAt views services.restarts
+                (may_show services.clock.now) new to) same.1 made.1),
+            [],
+            λ i. (sym same.0 i, from),
+          )
+          | inr done ↦ (
+            set from at made.0,
+            one.3 new made.0 made.1,
+            (at, done.0) ∷ [],
+            (
+              (after, set from at made.0),
+              record {
+                root = root;
+                root_is = slice_get_read services.all.now (length services.all.now) at root refl
+                    (omega (arith, some, count)) is_root;
+                from = one.0;
+                from_is = one.1;
+                to = made.0;
+                to_is = refl;
+                deed = done.1;
+              },
+              refl,
+            ),
+          )
+        ]
 
-        pub ends : (now.why ≡ GaveUp → ⊥) → starts < restarts.most → StoppedIf (says true) one
-            → IfNone (last_of one) (HasPassed shows restarts.grace)
-            → Keeps views allows refuses root restarts says shows (first, old) now (left, kept)
-        ends off few stop patient = record {
-          few = omega (arith, count, few);
-          given = before.given + ran.0;
-          sent = is_stopped one;
-          runs = runs;
-          pool = counts;
-          asked = λ some. no;
-          why = subst (λ (l : Option End). IsWhy restarts.most says now.why now.starts l) (sym is)
-              (is_why restarts.most says one now.why now.starts why off stop);
-          orders = stops one now.why why;
-          patient = λ some. subst (λ (l : Option End). IfNone l (HasPassed shows restarts.grace))
-              (sym is) patient;
+    -- this came of all
+    pub kept_all : (before after : S × PoolView C) (olds news : List (Service (RunningView C F D)))
+        (kept : List Kept) → length olds ≡ length services.all.now → All IsFresh olds
+        → Goes views may_show services allows refuses says before olds after news
+        → AllZip CameTo news kept
+        → KeepsAll views allows refuses services.restarts says (may_show services.clock.now)
+        services.all.now before kept after
+    kept_all before after olds news kept count are goes came =
+        let went = goes (map (λ root. fresh) services.all.now)
+        (all_fresh views services.restarts (may_show services.clock.now) olds services.all.now count
+        are) in record {
+          deeds = went.2;
+          stands = went.0;
+          went = went.3;
+          came = all_kept views services.restarts (may_show services.clock.now) news went.0 kept went.1
+              came;
         }

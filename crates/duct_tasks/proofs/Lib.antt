@@ -1,4 +1,5 @@
 pub mod AllEnded
+pub mod Asked
 pub mod Attending
 pub mod Capturing
 pub mod Common
@@ -6,13 +7,16 @@ pub mod Counting
 pub mod EachAttempt
 pub mod Ending
 pub mod Ends
+pub mod Explaining
 pub mod Handing
+pub mod Jobs
 pub mod Keeping
 pub mod Lining
+pub mod Moving
 pub mod Noting
 pub mod GroupLines
+pub mod Serving
 pub mod Signalled
 pub mod Staying
 pub mod Tails
 pub mod Trying
-pub mod Turning

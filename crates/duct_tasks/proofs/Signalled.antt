@@ -2,7 +2,7 @@
 use Rattle.std.specs.Prelude.{ℕ, pos, zero, suc, Bool, true, false, List, [], ◌∷◌, ◌++◌, All, length, map, is_some, unwrap_or, MatchOption, Ok, Err, Some, None}
 use Rattle.std.specs.Result.{result_and}
 use Rattle.std.proofs.Common.{◌≡◌, ◌<◌, ◌∙◌, arith, refl, ap, sym, subst, inl, inr, option_map, Option}
-use Rattle.duct_tasks.proofs.Common.{All-cons, All-head, All-nil, All-tail, Signal, shape_view, RunningView, SystemViews, AllAsked, AllZip, PolledOnce, Bytes, HadOrders, HasOrders, IsSignalled, RunsAlike, ShapeView, AreSignalled}
+use Rattle.duct_tasks.proofs.Common.{All-cons, All-head, All-nil, All-tail, Signal, shape_view, RunningView, SystemViews, AllAsked, AllZip, PolledOnce, Bytes, HasOrders, IsSignalled, RunsAlike, ShapeView, AreSignalled}
 use Rattle.duct_system.specs.Child.{Answer, ChildView, IsUnasked, Obeyed, OrdersChild, PollsChild, child_after, child_ordered, ending_after}
 use Rattle.duct_system.specs.Job.{JobView}
 use Rattle.duct_system.specs.declared.system.ExitStatus.{ExitStatus}
@@ -270,12 +270,6 @@ module _ {S E C F D : Type 0} (views : SystemViews S E C F D (Unit {0}) Bytes) w
     led = were.led ∙ ap (λ (s : ShapeView). leaders s) (sym polls.shape);
     signalled = signals_left were.tries before after polls were.signalled;
   }
-
-  -- what has these orders had them
-  pub had_orders : (sent : Bool) (waited : RunningView C F D) → HasOrders views sent waited →
-      HadOrders views sent waited
-  had_orders false waited has = has
-  had_orders true waited has = inr has
 
   -- an order leaves the shape and the numbers of all that runs, and the ids of the processes
   module _ (order : Order) (before after : RunningView C F D) (givens : List Given)

@@ -1,13 +1,18 @@
 -- The text of a failed run: how the commands that failed ended, and the last lines of stderr; and
 -- that of a late one.
-use Rattle.std.specs.Prelude.{ℕ, List, [], ◌∷◌, ◌++◌, ◌-◌, length, take, map, codes, drop, is_some, nat_eq, nat_le, ◌≡◌, ◌⊎◌, Some, None, if◌then◌else◌, Option}
+use Rattle.std.specs.Prelude.{ℕ, List, [], ◌∷◌, ◌++◌, ◌-◌, length, take, map, codes, drop, is_some, nat_eq, nat_le, ◌≡◌, ◌⊎◌, Some, None, if◌then◌else◌, string_bytes, Ok, Err, Option, String}
 use Rattle.std.specs.Fmt.{◌++?◌}
 use Rattle.std.specs.Io.BufRead.{drop_through}
 use Rattle.std.specs.List.{ends_with}
+use Rattle.std.specs.Option.{option_map}
 use Rattle.std.specs.Str.{is_utf8}
+use Rattle.std.specs.declared.alloc.Global.{Global}
+use Rattle.duct_system.specs.declared.error.Error.{Error}
 use Rattle.duct_status.specs.Form.{Form, before, plain, printed}
 use Rattle.duct_tasks.specs.Statuses.{CommandView, command_form, command_view, has_failed}
 use Rattle.duct_tasks.specs.declared.failed_run.FailedRun.{FailedRun}
+use Rattle.duct_tasks.specs.declared.finished.TaskEnd.{TaskEnd}
+use Rattle.duct_tasks.specs.declared.finished.TaskEnd.TheVariants as end
 
 -- the last whole lines of these bytes, at most so many bytes: all bytes if they are no more, else
 -- what follows the first `\n` from the byte before the last so many
@@ -59,3 +64,13 @@ abbrev pub failed_text : FailedRun → Option (List ℕ)
 failed_text run =
     printed (failed_form [] (map command_view run.commands.items))
     ++? stderr_text (without_newline (last_lines run.most run.output.stderr.items))
+
+-- what came of a task, as text: the request that was refused, or the commands that hung; no promise
+-- of an error
+abbrev pub finished_text : TaskEnd → Option Error → Option (String Global) → List CommandView
+    → Option (List ℕ)
+finished_text (end.Refused e) unread request commands = option_map string_bytes request
+finished_text (end.Ended (Ok output)) None request commands = Some (codes "ended")
+finished_text (end.Ended (Ok output)) (Some e) request commands = None
+finished_text (end.Ended (Err e)) unread request commands = None
+finished_text (end.Late late) unread request commands = printed (late_form commands)

@@ -1,9 +1,12 @@
 pub mod Captures
+pub mod FailedRequest
 pub mod FailedText
 pub mod Groups
 pub mod LinesRun
 pub mod Pauses
+pub mod Services
 pub mod Statuses
 pub mod Streams
+pub mod Tasks
 pub mod Turns
 pub mod Until

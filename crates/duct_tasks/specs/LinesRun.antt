@@ -1,5 +1,6 @@
 -- What a run does whose lines are handed on until a moment.
-use Rattle.std.specs.Prelude.{ℕ, ◌≡◌, ◌⊎◌, Bool, true, List, All, map, Ok, Err, Option, Result}
+use Rattle.std.specs.Prelude.{ℕ, ◌≡◌, ◌⊎◌, Bool, true, false, List, All, map, Ok, Err, Option, Result}
+use Rattle.std.specs.declared.io.Error as io
 use Rattle.std.specs.declared.time.Duration.{Duration}
 use Rattle.duct_base.specs.Pool.{PoolView}
 use Rattle.duct_system.specs.Child.{IsUnasked}
@@ -23,7 +24,7 @@ use Rattle.duct.specs.TreeView.{tree_view}
 use Rattle.duct.specs.declared.expression.Expression.{Expression}
 use Rattle.duct_tasks.specs.Captures.{ReturnsEach}
 use Rattle.duct_tasks.specs.Statuses.{CommandView, command_view, commands_in, with_reports}
-use Rattle.duct_tasks.specs.Streams.{GivesLines}
+use Rattle.duct_tasks.specs.Streams.{FailedBy, GivesLines}
 use Rattle.duct_tasks.specs.Until.{EndedAtOnce, HasShownLess, IsStoppedAt, LaunchStopped}
 use Rattle.duct_tasks.specs.declared.capture.Captured.{Captured}
 use Rattle.duct_tasks.specs.declared.late.Late.{Late}
@@ -33,9 +34,10 @@ use Rattle.duct_tasks.specs.declared.late.Until.TheVariants as until
 use Rattle.duct_tasks.specs.declared.lines.LinesError.{LinesError}
 use Rattle.duct_tasks.specs.declared.lines.LinesError.TheVariants as lines
 
--- the tree whose stderr goes to this end, and whose failure is no error
-abbrev pub with_stderr : {E H : Type 0} → E → TreeView E H → TreeView E H
-with_stderr end tree = around unchecked (around (stderr_file end) tree)
+-- the tree whose stderr goes to this end, and whose failure is no error unless this says so
+abbrev pub with_stderr : {E H : Type 0} → Bool → E → TreeView E H → TreeView E H
+with_stderr true end tree = around (stderr_file end) tree
+with_stderr false end tree = around unchecked (around (stderr_file end) tree)
 
 -- a run without a moment is one that ended in time, or failed
 abbrev pub in_time : Result Captured LinesError → Result (Until Captured LateLines) LinesError
@@ -62,12 +64,12 @@ module _ {S E C F D : Type 0} (views : SystemViews S E C F D (Unit {0}) Bytes) {
       × IsRefused (Pipe (Err fault)) 0 fault (views.journal before) (views.journal after))
       ⊎ ((e ≡ error.Memory) × (write : E) × (reader : R) × Opens before write reader after)
 
-  module _ {H : Type 0} (root : Expression E H) where
+  module _ {H : Type 0} (is_checked : Bool) (root : Expression E H) where
     -- the same, and this expression writes its stderr into the pipe
     pub record Pipes (before : S) (inside : Expression E H) (reader : R) (after : S) : Type 0 where
       pub write : E
       pub opens : Opens before write reader after
-      pub tree : tree_view inside ≡ with_stderr write (tree_view root)
+      pub tree : tree_view inside ≡ with_stderr is_checked write (tree_view root)
 
 module _ {S E C F D : Type 0} (views : SystemViews S E C F D (Unit {0}) Bytes) {R : Type 0}
     (may : ℕ → R → Type 0) (remaining : R → Option (List ℕ)) {G : Type 0}
@@ -111,28 +113,29 @@ FailsLines views e waited kind tree added =
 
 module _ {S E C F D : Type 0} (views : SystemViews S E C F D (Unit {0}) Bytes) {R : Type 0}
     (may : ℕ → R → Type 0) (remaining : R → Option (List ℕ)) {G : Type 0}
-    (Step : G → Side × List ℕ → G → Type 0) {H : Type 0} (allows : Allows H)
-    (refuses : Refuses H) (root : Expression E H) (grace : Duration) (shows : Duration → Type 0)
-    (moment : ℕ) where
+    (Gives : Result (Unit {0}) io.Error → G → Side × List ℕ → G → Type 0) {H : Type 0}
+    (allows : Allows H) (refuses : Refuses H) (root : Expression E H) (grace : Duration)
+    (shows : Duration → Type 0) (moment : ℕ) where
   -- a pipe was opened for stderr, and the expression inside was started: it ended in time; or it
   -- was stopped; or it failed
   abbrev pub RunsInside : G → G → S × PoolView C → Expression E H → R
       → Result (Until Captured LateLines) LinesError → S × PoolView C → Type 0
   RunsInside g g' piped inside err (Ok (until.Done captured)) after =
       Launched views allows reading inside piped.0 after.0 piped.1 after.1
-      (EndsLines views may remaining Step g g' err shows moment captured)
+      (EndsLines views may remaining (Gives (Ok tt)) g g' err shows moment captured)
   RunsInside g g' piped inside err (Ok (until.Late late)) after =
       IsStoppedAt grace shows moment late.late
       × LaunchStopped views allows refuses reading
-      (WroteUntil views may remaining Step g g' err late) inside piped after late.late
+      (WroteUntil views may remaining (Gives (Ok tt)) g g' err late) inside piped after late.late
   RunsInside g g' piped inside err (Err (lines.Run e)) after =
       RunFailed views allows refuses reading inside piped.0 after.0 piped.1 after.1
       (FailsLines views) e
       ⊎ ((late : Late) × LaunchStopped views allows refuses reading (λ polled kind tree added. Unit)
       inside piped after late)
   RunsInside g g' piped inside err (Err (lines.Closure e)) after =
-      (late : Late) × LaunchStopped views allows refuses reading (λ polled kind tree added. Unit)
-      inside piped after late
+      FailedBy Gives (lines.Closure e) g'
+      × (late : Late) × LaunchStopped views allows refuses reading
+      (λ polled kind tree added. Unit) inside piped after late
 
   -- what a run does whose lines are handed on until this moment; or there was no memory, or no
   -- pipe, for it
@@ -140,7 +143,7 @@ module _ {S E C F D : Type 0} (views : SystemViews S E C F D (Unit {0}) Bytes) {
       → S × PoolView C → Type 0
   IsLinesRun g g' before result after =
       ((piped : S) × (inside : Expression E H) × (err : R)
-      × Pipes views may root before.0 inside err piped
+      × Pipes views may false root before.0 inside err piped
       × RunsInside g g' (piped, before.1) inside err result after)
       ⊎ ((e : Error) × (result ≡ Err (lines.Run e)) × OpenFails views may before.0 e after.0
       × (after.1 ≡ before.1))

@@ -12,6 +12,7 @@ use Rattle.duct_system.specs.declared.system.Side.TheVariants as side
 use Rattle.duct_tasks.specs.declared.lines.BothLines.{BothLines}
 use Rattle.duct_tasks.specs.declared.lines.Lines.{Lines}
 use Rattle.duct_tasks.specs.declared.lines.LinesError.{LinesError}
+use Rattle.duct_tasks.specs.declared.lines.LinesError.TheVariants as lines
 use Rattle.duct_tasks.specs.declared.stream.Stream.{Stream}
 
 -- what a read left, into a buffer that has room
@@ -145,10 +146,17 @@ module _ {F : Type 0} (Step : F → Side × List ℕ → F → Type 0) where
   HandsTo true f f' out told err told_err = HandsBoth f f' out err
   HandsTo false f f' out told err told_err = ToldBoth f f' out told err told_err
 
-  -- the same, unless no more is read because of an error
+module _ {F : Type 0} (Gives : Result (Unit {0}) Error → F → Side × List ℕ → F → Type 0) where
+  -- where the error is one of the closure, its last call returned it
+  abbrev pub FailedBy : LinesError → F → Type 0
+  FailedBy (lines.Run e) f' = Unit {0}
+  FailedBy (lines.Closure e) f' = (f : F) × (line : Side × List ℕ) × Gives (Err e) f line f'
+
+  -- lines were handed on by calls that gave no error, or no more is read because of an error
   abbrev pub HandsUnless : Result Bool LinesError → F → F → List ℕ → ℕ → List ℕ → ℕ → Type 0
-  HandsUnless (Ok over) f f' out told err told_err = HandsTo over f f' out told err told_err
-  HandsUnless (Err error) f f' out told err told_err = Unit {0}
+  HandsUnless (Ok over) f f' out told err told_err =
+      HandsTo (Gives (Ok tt)) over f f' out told err told_err
+  HandsUnless (Err error) f f' out told err told_err = FailedBy error f'
 
 module _ {R : Type 0} (remaining : R → Option (List ℕ)) where
   -- both streams are read, and to EOF if that is said
@@ -172,7 +180,7 @@ module _ {R : Type 0} (remaining : R → Option (List ℕ)) where
 
 module _ {R F : Type 0} (calls : Mut F (Side × (Bor (List ℕ) × Unit {0})) (Result (Unit {0}) Error))
   where
-    -- the lines of both streams were handed on as far as they were read, unless that has failed
+    -- the lines of both streams were handed on as far as they were read, or that has failed
     abbrev pub Handed : BothLines R → F → F → Type 0
-    Handed both f f' = HandsUnless (Hands calls (Ok tt)) both.over f f' both.out.bytes.items
+    Handed both f f' = HandsUnless (Hands calls) both.over f f' both.out.bytes.items
         both.out.told both.err.bytes.items both.err.told

@@ -5,21 +5,20 @@ ghost use Rattle.duct_system.specs.declared.error.Error.TheVariants as error;
 ghost use Rattle.duct_status.specs.ReplyView.{answered};
 ghost use Rattle.duct_run.specs.Requested.{PoolGets};
 ghost use Rattle.duct_running.specs.Allowed.{StoresAllowed};
-ghost use Rattle.duct_running.specs.Ordered.{IsUnordered};
 ghost use Rattle.duct_running.specs.Polled.{PolledOnce, ReturnsOutcome, StaysSame};
 ghost use Rattle.duct_running.specs.Stored.{stored_in};
 ghost use Rattle.duct_handle.specs.Finished.{StoresError, StoresReply};
 ghost use Rattle.duct_handle.specs.Waited.{at_end};
 ghost use Rattle.duct_tasks.specs.LinesRun.{IsLinesRun, OpenFails, Pipes, in_time};
 ghost use Rattle.duct_tasks.specs.Statuses.{command_view, with_reports, words_of};
-ghost use Rattle.duct_tasks.specs.Streams.{GivesLines, Handed, Hands, ReadsBoth};
+ghost use Rattle.duct_tasks.specs.Streams.{FailedBy, GivesLines, Handed, Hands, ReadsBoth};
 ghost use Rattle.duct_tasks.specs.Turns.{HasOrders};
 ghost use Rattle.duct_tasks.specs.Until.{HasReached, HasShownLess, IsStoppedAt, StopsAndGives, StoresEnd};
 ghost use Rattle.duct_tasks.specs.declared.lines.LinesError.TheVariants as lines;
 
 use crate::capture::Captured;
 use crate::grace::Asked;
-use crate::late::{Deadline, Late, LateLines, Until};
+use crate::late::{Deadline, LAST_READ, Late, LateLines, Until};
 use crate::lines::{BothLines, LinesError};
 use crate::statuses::{CommandStatus, add_commands, note};
 use crate::watch::{is_over, watch};
@@ -37,9 +36,6 @@ use std::io::Read;
 use std::sync::{Arc, Wait};
 use std::thread::Threads;
 use std::time::Duration;
-
-/// How long the pipes of a killed expression get to come to EOF, in seconds.
-const LAST_READ: u64 = 1;
 
 /// A clock that stands still, by which no moment comes but the first one.
 struct Still;
@@ -59,21 +55,26 @@ struct Attended<S: System> {
     commands: Vec<CommandStatus>,
 }
 
-// Opens a pipe for what an expression writes to stderr. Returns the expression that writes into it,
-// whose failure is no error, and a reader of the pipe.
-fn piped<H: Hook, S: System>(
+/// Opens a pipe for what an expression writes to stderr. Returns the expression that writes into it,
+/// and a reader of the pipe. Its failure is no error unless it is checked.
+pub(crate) fn piped<H: Hook, S: System>(
     sys: &mut S,
     expression: &Expression<S::End, H>,
+    is_checked: bool,
 ) -> Result<(Expression<S::End, H>, S::Reader), Error>
-    ensures ok { IfOk result (λ made. Pipes ⟦<S as Viewed>⟧.views S.may_read expression.now sys.old
-        made.0 made.1 sys.new) }
+    ensures ok { IfOk result (λ made. Pipes ⟦<S as Viewed>⟧.views S.may_read is_checked
+        expression.now sys.old made.0 made.1 sys.new) }
     ensures err { IfErr result
         (λ e. OpenFails ⟦<S as Viewed>⟧.views S.may_read sys.old e sys.new) }
 {
     let (read, write) = sys.pipe()?;
     let err = sys.reader(read);
-    let inside = expression.stderr_file(write)?.unchecked()?;
-    Ok((inside, err))
+    let inside = expression.stderr_file(write)?;
+    if is_checked {
+        Ok((inside, err))
+    } else {
+        Ok((inside.unchecked()?, err))
+    }
 }
 
 // Returns the end of the grace, which is over at once where the lines can't be handed on.
@@ -206,6 +207,8 @@ where
             → (over : Bool) × GivesLines S.Reader.remaining (Hands F.FnMut (Ok tt)) over f each.new
             self.streams.out.first.value self.streams.err.first.value lines.stdout.items
             lines.stderr.items) }
+        ensures failed { IfErr result (λ error. (f : F) → Handed F.FnMut self.streams f each.old
+            → FailedBy (Hands F.FnMut) error each.new) }
     {
         let alloc = like.allocator();
         let Attended {
@@ -216,7 +219,7 @@ where
         let last = end_of_grace(deadline, &streams);
         let asked = Asked::new(rt, sys, pool, like, running);
         streams.read(rt, alloc, deadline.clock, last, each);
-        let (ended, mut lapsed) = asked.wait(rt, deadline.clock, last, true);
+        let (ended, mut lapsed) = asked.wait(rt, deadline.clock, last);
         let killed = lapsed.kill(rt, sys, pool, like);
         lapsed.into_running().give_up(pool);
         let last = last.saturating_add(Duration::from_secs(LAST_READ));
@@ -266,14 +269,14 @@ where
     S::Reader: Send + 'static,
     requires { F.IsAlwaysCallable each.old }
     ensures run { IsLinesRun ⟦<S as Viewed>⟧.views S.may_read S.Reader.remaining
-        (Hands F.FnMut (Ok tt)) H.allows H.refuses expression.now deadline.now.grace
+        (Hands F.FnMut) H.allows H.refuses expression.now deadline.now.grace
         (C.may_show deadline.now.clock.now) (as_nanos deadline.now.moment) each.old each.new
         (sys.old, pool.old) result (sys.new, pool.new) }
 {
     let alloc = expression.allocator();
     let mut commands = Vec::new(alloc);
     add_commands(&mut commands, expression.root())?;
-    let (inside, err) = piped(sys, expression)?;
+    let (inside, err) = piped(sys, expression, false)?;
     let (running, out) = inside.launch_reader(sys, pool)?;
     drop(inside); // so that stderr comes to EOF
     let streams = match BothLines::new(rt, alloc, out, err) {
@@ -311,7 +314,7 @@ where
     S::Reader: Send + 'static,
     requires { F.IsAlwaysCallable each.old }
     ensures run { (grace : Duration) × IsLinesRun ⟦<S as Viewed>⟧.views S.may_read
-        S.Reader.remaining (Hands F.FnMut (Ok tt)) H.allows H.refuses expression.now grace
+        S.Reader.remaining (Hands F.FnMut) H.allows H.refuses expression.now grace
         (λ moment. as_nanos moment ≡ 0) 1 each.old each.new (sys.old, pool.old) (in_time result)
         (sys.new, pool.new) }
 {

@@ -10,7 +10,7 @@ ghost use Rattle.duct_tasks.specs.Groups.{OrdersAll, SignalsGroups, Tries, proce
 ghost use Rattle.duct_tasks.specs.Until.{AreSignalled, HasLapsed, HasReached, RunsAlike};
 ghost use Rattle.duct_tasks.specs.Turns.{HasOrders};
 
-use crate::group::{kill_groups, order_all};
+use crate::group::order_all;
 use crate::late::TERMINATE;
 use crate::watch::{is_over, watch};
 use duct::Expression;
@@ -58,13 +58,12 @@ impl<S: System> Asked<S> {
     }
 
     /// Polls until it has ended and returns how, or `None` where it has not by this moment. An
-    /// allocation failure of a poll doesn't end a patient wait before that.
+    /// allocation failure of a poll doesn't end the wait before that.
     pub(crate) fn wait<C: Clock>(
         self,
         rt: &impl Wait,
         clock: &C,
         last: Duration,
-        is_patient: bool,
     ) -> (Option<Result<Arc<Output>, Error>>, Lapsed<S>)
         ensures alike { RunsAlike ⟦<S as Viewed>⟧.views self.running result.1.running }
         ensures processes { processes_of ⟦<S as Viewed>⟧.views result.1.running
@@ -72,14 +71,14 @@ impl<S: System> Asked<S> {
         ensures lapsed { (tries : Tries) → AreSignalled ⟦<S as Viewed>⟧.views tries self.running
             → HasLapsed ⟦<S as Viewed>⟧.views tries result.0 result.1.running }
         ensures late { IfNone result.0 (HasReached (C.may_show clock.now) (as_nanos last)) }
-        ensures patient { is_patient ≡ true → IfSome result.0 (λ end.
+        ensures patient { IfSome result.0 (λ end.
             at_end end ≡ Err error.Memory → HasReached (C.may_show clock.now) (as_nanos last)) }
     {
         let Asked { mut running } = self;
         let is_last = ||
             ensures { result ≡ true → HasReached (C.may_show clock.entry.now) (as_nanos last) }
         { is_over(clock, last) };
-        let ended = watch(rt, &is_last, is_patient, &mut running);
+        let ended = watch(rt, &is_last, true, &mut running);
         (ended, Lapsed { running })
     }
 }
@@ -99,22 +98,6 @@ impl<S: System> Lapsed<S> {
             self.new.running }
     {
         order_all(rt, sys, pool, like, Order::Kill, &mut self.running)
-    }
-
-    /// Kills what is left of the groups that this expression's commands led, as `kill_groups` does.
-    pub(crate) fn kill_groups<H: Hook>(
-        &self,
-        rt: &impl Wait,
-        sys: &mut S,
-        pool: &mut Pool<S::Child>,
-        like: &Expression<S::End, H>,
-    )
-        ensures { (tries : Tries) × SignalsGroups ⟦<S as Viewed>⟧.views H.allows H.refuses (pos 9)
-            (shape_view self.now.running.shape)
-            (processes_of ⟦<S as Viewed>⟧.views self.now.running) tries (sys.old, pool.old)
-            (sys.new, pool.new) }
-    {
-        kill_groups(rt, sys, pool, like, &self.running);
     }
 
     /// Returns what runs, or has ended.

@@ -1,9 +1,9 @@
 //! Orders to what runs, which go to the whole group of a command that leads one.
-ghost use Rattle.std.specs.Prelude.{◌≡◌, ◌+◌, ◌<◌, pos, length, map, string_bytes, slice_get, Bool, IfErr, IfOk, IfSome, Option, Some};
+ghost use Rattle.std.specs.Prelude.{◌≡◌, ◌+◌, ◌<◌, length, map, string_bytes, slice_get, Bool, IfErr, IfOk, IfSome, Option, Some};
 ghost use Rattle.duct_status.specs.ShapeView.{command_count, shape_view};
 ghost use Rattle.duct_running.specs.Ordered.{OrderAnswers};
 ghost use Rattle.duct.specs.TreeView.{tree_view};
-ghost use Rattle.duct_tasks.specs.Groups.{IsGivenAt, OrdersAll, SignalsGroups, TriedAt, TriedGroup, Tries, group_line, leaders, leads, line_tree, printed_line, processes_of, signal_of};
+ghost use Rattle.duct_tasks.specs.Groups.{IsGivenAt, OrdersAll, TriedAt, TriedGroup, Tries, group_line, leaders, leads, line_tree, printed_line, signal_of};
 ghost use Rattle.duct_tasks.specs.Until.{RunsAlike};
 
 use duct::{Expression, cmd};
@@ -193,22 +193,4 @@ pub(crate) fn order_all<H: Hook, S: System>(
         answer = order_at(rt, sys, pool, like, order, running, at).and(answer);
     }
     result_of(answer)
-}
-
-/// Kills the groups of the commands of what this expression runs that lead one, and no command
-/// alone.
-pub(crate) fn kill_groups<H: Hook, S: System>(
-    rt: &impl Wait,
-    sys: &mut S,
-    pool: &mut Pool<S::Child>,
-    like: &Expression<S::End, H>,
-    running: &Running<S>,
-)
-    ensures { (tries : Tries) × SignalsGroups ⟦<S as Viewed>⟧.views H.allows H.refuses (pos 9)
-        (shape_view running.now.shape) (processes_of ⟦<S as Viewed>⟧.views running.now) tries
-        (sys.old, pool.old) (sys.new, pool.new) }
-{
-    for at in (0..running.pids().len()).rev() {
-        let _ = try_group(rt, sys, pool, like, Order::Kill, running, at);
-    }
 }

@@ -15,6 +15,9 @@ use std::{error, fmt};
 /// The signal that asks a command to end.
 pub const TERMINATE: i32 = 15;
 
+/// How long the streams of what was killed are read on, in seconds.
+pub(crate) const LAST_READ: u64 = 1;
+
 /// The moment until which an expression may run.
 #[derive(Drop)]
 pub struct Deadline<'c, C> {
@@ -82,9 +85,9 @@ impl fmt::Debug for LateLines {
 
 impl error::Error for LateLines {}
 
-// Writes each command that has not ended, with a lead before the first one and a newline before the
-// others.
-fn write_hung<W: fmt::Write>(
+/// Writes each command that has not ended, with a lead before the first one and a newline before
+/// the others.
+pub(crate) fn write_hung<W: fmt::Write>(
     lead: &str,
     commands: &[CommandStatus],
     f: &mut fmt::Formatter<W>,

@@ -1,10 +1,9 @@
 //! The lines of two streams, handed on while both are read.
-ghost use Rattle.std.specs.Prelude.{ℕ, ◌≡◌, ◌≤◌, ◌++◌, Bool, true, false, [], List, IfErr, IfOk, IfNone, IfSome, IsErr, IsOk, OnErr, OnOk, Ok, Err, take, drop, length, vec_len};
+ghost use Rattle.std.specs.Prelude.{ℕ, ◌≡◌, ◌≤◌, ◌++◌, Bool, true, false, [], List, IfErr, IfOk, IfNone, IfSome, IsErr, IsOk, OnOk, Ok, Err, take, drop, length};
 ghost use Rattle.std.specs.Duration.{as_nanos};
 ghost use Rattle.std.specs.Io.BufRead.{take_through};
-ghost use Rattle.std.specs.Io.KnownBytes.{Consumes, IsAtEnd};
 ghost use Rattle.duct_system.specs.declared.error.Error.TheVariants.{Memory};
-ghost use Rattle.duct_tasks.specs.Streams.{Handed, Hands, HandsRest, HandsTo, HandsWhole, IsLines, IsPart, IsWhole, ReadsBoth, Turns, without_end};
+ghost use Rattle.duct_tasks.specs.Streams.{FailedBy, Handed, Hands, HandsRest, HandsTo, HandsWhole, IsLines, IsPart, IsWhole, ReadsBoth, Turns, without_end};
 ghost use Rattle.duct_tasks.specs.Until.{HasReached};
 ghost use Rattle.duct_tasks.specs.declared.lines.LinesError.TheVariants as lines;
 
@@ -16,6 +15,7 @@ use duct_base::system::{Clock, Fault, Said, Side};
 use std::alloc::{AllocError, Global};
 use std::io;
 use std::io::Read;
+use std::mem::replace;
 use std::snapshot::Snapshot;
 use std::sync::Wait;
 use std::thread::Threads;
@@ -102,8 +102,7 @@ fn hand_on<F: FnMut(Side, &[u8]) -> io::Result<()>>(
     ensures rest { IfOk result (λ told. IsPart (drop told bytes.now)) }
     ensures ok { IfOk result (λ told.
         HandsWhole (Hands F.FnMut (Ok tt)) side each.old (take told bytes.now) each.new) }
-    ensures err { IfErr result (λ error.
-        (f : F) × (text : List ℕ) × Hands F.FnMut (Err error) f (side, text) each.new) }
+    ensures err { IfErr result (λ error. FailedBy (Hands F.FnMut) (lines.Closure error) each.new) }
 {
     let mut told = 0;
     while let Some(line) = first_line(&bytes[told..]) {
@@ -184,6 +183,7 @@ impl<R: Read + Send + Drop + 'static> Lines<R> {
         ensures first { self.new.first.value ≡ self.old.first.value }
         ensures ok { OnOk result (Turns (Hands F.FnMut (Ok tt)) side self.old.bytes.items
             self.old.told each.old self.new.bytes.items self.new.told each.new) }
+        ensures failed { IfErr result (λ error. FailedBy (Hands F.FnMut) error each.new) }
     {
         match self.take(rt, alloc) {
             Ok(true) => {}
@@ -210,6 +210,7 @@ impl<R: Read + Send + Drop + 'static> Lines<R> {
         ensures callable { F.IsAlwaysCallable each.new }
         ensures ok { OnOk result (HandsRest (Hands F.FnMut (Ok tt)) side each.old
             (drop self.now.told self.now.bytes.items) each.new) }
+        ensures failed { IfErr result (λ error. FailedBy (Hands F.FnMut) error each.new) }
     {
         let rest = &self.bytes[self.told..];
         if rest.is_empty() {
@@ -220,60 +221,6 @@ impl<R: Read + Send + Drop + 'static> Lines<R> {
             Err(error) => Err(LinesError::Closure(error)),
         }
     }
-}
-
-// Reads both streams to EOF, or until it is to stop, which is asked after each round that doesn't
-// find EOF. Hands on each line once it is read. The lines of one stream come in their order; between
-// those of both the order is that in which they are found. A last line without a newline comes at
-// EOF. Returns whether both came to EOF.
-fn read_both<
-    R: Read + Send + Drop + 'static,
-    G: Fn() -> bool,
-    F: FnMut(Side, &[u8]) -> io::Result<()>,
->(
-    rt: &(impl Threads + Wait),
-    alloc: Global,
-    out: &mut Lines<R>,
-    err: &mut Lines<R>,
-    stop: &G,
-    each: &mut F,
-) -> Result<bool, LinesError>
-    requires asked { G.IsAlwaysCallable stop.now }
-    requires callable { F.IsAlwaysCallable each.old }
-    requires output { IsLines R.remaining out.old }
-    requires error { IsLines R.remaining err.old }
-    ensures callable { F.IsAlwaysCallable each.new }
-    ensures ok { IfOk result (λ over. (f : F) → HandsTo (Hands F.FnMut (Ok tt)) false f each.old
-        out.old.bytes.items out.old.told err.old.bytes.items err.old.told
-        → HandsTo (Hands F.FnMut (Ok tt)) over f each.new
-        out.new.bytes.items out.new.told err.new.bytes.items err.new.told) }
-    ensures output { IsLines R.remaining out.new }
-    ensures error { IsLines R.remaining err.new }
-    ensures first_output { out.new.first.value ≡ out.old.first.value }
-    ensures first_error { err.new.first.value ≡ err.old.first.value }
-    ensures output_ends { IfOk result (λ over. over ≡ true → out.new.is_open ≡ false) }
-    ensures error_ends { IfOk result (λ over. over ≡ true → err.new.is_open ≡ false) }
-    ensures says { IfOk result (λ over. over ≡ false → G.post stop.now true) }
-{
-    let mut pauses = Pause::new();
-    for _ in rt.forever() {
-        let before = out.bytes.len().saturating_add(err.bytes.len());
-        out.turn(rt, alloc, Side::Out, each)?;
-        err.turn(rt, alloc, Side::Err, each)?;
-        if !out.is_open && !err.is_open {
-            out.hand_on_rest(Side::Out, each)?;
-            err.hand_on_rest(Side::Err, each)?;
-            return Ok(true);
-        }
-        if stop() {
-            return Ok(false);
-        }
-        if before < out.bytes.len().saturating_add(err.bytes.len()) {
-            pauses = Pause::new();
-        }
-        pauses.rest(rt);
-    }
-    unreachable!()
 }
 
 /// Both streams of what runs.
@@ -305,6 +252,66 @@ impl<R: Read + Send + Drop + 'static> BothLines<R> {
         })
     }
 
+    // Takes what a read of either stream left, if it is over, and hands on the lines that are whole
+    // then; at EOF of both it hands on last lines without a newline. Returns whether both came to
+    // EOF.
+    fn turn_both<F: FnMut(Side, &[u8]) -> io::Result<()>>(
+        &mut self,
+        rt: &(impl Threads + Wait),
+        alloc: Global,
+        each: &mut F,
+    ) -> Result<bool, LinesError>
+        requires callable { F.IsAlwaysCallable each.old }
+        requires output { IsLines R.remaining self.old.out }
+        requires error { IsLines R.remaining self.old.err }
+        ensures callable { F.IsAlwaysCallable each.new }
+        ensures output { IsLines R.remaining self.new.out }
+        ensures error { IsLines R.remaining self.new.err }
+        ensures out { self.new.out.first.value ≡ self.old.out.first.value }
+        ensures err { self.new.err.first.value ≡ self.old.err.first.value }
+        ensures ok { IfOk result (λ over. (f : F) → HandsTo (Hands F.FnMut (Ok tt)) false f each.old
+            self.old.out.bytes.items self.old.out.told self.old.err.bytes.items self.old.err.told
+            → HandsTo (Hands F.FnMut (Ok tt)) over f each.new self.new.out.bytes.items
+            self.new.out.told self.new.err.bytes.items self.new.err.told) }
+        ensures failed { IfErr result (λ error. FailedBy (Hands F.FnMut) error each.new) }
+        ensures ends { result ≡ Ok true
+            → (self.new.out.is_open ≡ false) × (self.new.err.is_open ≡ false) }
+    {
+        self.out.turn(rt, alloc, Side::Out, each)?;
+        self.err.turn(rt, alloc, Side::Err, each)?;
+        if self.out.is_open || self.err.is_open {
+            return Ok(false);
+        }
+        self.out.hand_on_rest(Side::Out, each)?;
+        self.err.hand_on_rest(Side::Err, each)?;
+        Ok(true)
+    }
+
+    /// Takes what was read since the last call, and hands on the lines that are whole by it; at EOF
+    /// of both streams also last lines without a newline. Where both came to EOF, or a read or the
+    /// closure has failed, it does nothing. It doesn't block.
+    pub fn turn<F: FnMut(Side, &[u8]) -> io::Result<()>>(
+        &mut self,
+        rt: &(impl Threads + Wait),
+        alloc: Global,
+        each: &mut F,
+    )
+        requires callable { F.IsAlwaysCallable each.old }
+        requires both { ReadsBoth R.remaining self.old }
+        ensures callable { F.IsAlwaysCallable each.new }
+        ensures both { ReadsBoth R.remaining self.new }
+        ensures out { self.new.out.first.value ≡ self.old.out.first.value }
+        ensures err { self.new.err.first.value ≡ self.old.err.first.value }
+        ensures hands { (f : F) → Handed F.FnMut self.old f each.old
+            → Handed F.FnMut self.new f each.new }
+        ensures failed { IsErr self.old.over → IsErr self.new.over }
+        ensures closed { (self.old.over ≡ Ok false → ⊥) → self.new.over ≡ self.old.over }
+    {
+        if let Ok(false) = self.over {
+            self.over = self.turn_both(rt, alloc, each);
+        }
+    }
+
     /// Reads both streams, as far as they come by this moment, and hands on their lines. It blocks
     /// until EOF, until the clock shows the moment, or until a read or the closure fails, after
     /// which nothing is read any more.
@@ -328,12 +335,32 @@ impl<R: Read + Send + Drop + 'static> BothLines<R> {
         ensures late { self.new.over ≡ Ok false
             → HasReached (C.may_show clock.now) (as_nanos moment) }
     {
-        if let Ok(false) = self.over {
-            let stop = ||
-                ensures { result ≡ true → HasReached (C.may_show clock.entry.now) (as_nanos moment) }
-            { is_over(clock, moment) };
-            self.over = read_both(rt, alloc, &mut self.out, &mut self.err, &stop, each);
+        let mut pauses = Pause::new();
+        for _ in rt.forever() {
+            let before = self.count();
+            self.turn(rt, alloc, each);
+            if !self.go_on() || is_over(clock, moment) {
+                return;
+            }
+            if before < self.count() {
+                pauses = Pause::new();
+            }
+            pauses.rest(rt);
         }
+        unreachable!()
+    }
+
+    /// Returns how many bytes were read so far.
+    pub fn count(&self) -> usize {
+        self.out.bytes.len().saturating_add(self.err.bytes.len())
+    }
+
+    /// Returns whether there may be more to read.
+    pub fn go_on(&self) -> bool
+        ensures yes { result ≡ true → self.now.over ≡ Ok false }
+        ensures no { result ≡ false → self.now.over ≡ Ok false → ⊥ }
+    {
+        matches!(self.over, Ok(false))
     }
 
     /// Returns whether both streams were read to EOF.
@@ -352,13 +379,29 @@ impl<R: Read + Send + Drop + 'static> BothLines<R> {
         matches!(self.over, Err(_))
     }
 
+    /// Takes all bytes that were read of stdout and of stderr, and why reading failed, if it has.
+    pub fn take(&mut self, alloc: Global) -> (Vec<u8>, Vec<u8>, Option<Error>)
+        ensures stdout { result.0.items ≡ self.old.out.bytes.items }
+        ensures stderr { result.1.items ≡ self.old.err.bytes.items }
+        ensures read { IfNone result.2 (IsOk self.old.over) }
+    {
+        let stdout = replace(&mut self.out.bytes, Vec::new(alloc));
+        let stderr = replace(&mut self.err.bytes, Vec::new(alloc));
+        let unread = match replace(&mut self.over, Ok(true)) {
+            Ok(_) => None,
+            Err(LinesError::Run(error)) => Some(error),
+            Err(LinesError::Closure(error)) => Some(Error::System(Fault::from(error))),
+        };
+        (stdout, stderr, unread)
+    }
+
     /// Returns all bytes that were read of stdout and of stderr, or why reading failed. A read that
     /// goes on ends by itself.
     pub fn into_bytes(self) -> Result<(Vec<u8>, Vec<u8>), LinesError>
         ensures ok { IfOk result (λ bytes. (bytes.0.items ≡ self.out.bytes.items)
             × (bytes.1.items ≡ self.err.bytes.items)) }
         ensures over { OnOk result ((over : Bool) × (self.over ≡ Ok over)) }
-        ensures err { OnErr result (IsErr self.over) }
+        ensures err { IfErr result (λ error. self.over ≡ Err error) }
     {
         let BothLines { out, err, over } = self;
         match over {

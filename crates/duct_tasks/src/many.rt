@@ -1,19 +1,24 @@
 //! Tasks of which only so many run at once.
-ghost use Rattle.std.specs.Prelude.{◌≡◌, ◌<◌, ◌≤◌, ◌⊎◌, length, IfErr, IfOk};
+ghost use Rattle.std.specs.Prelude.{◌≡◌, ◌<◌, ◌≤◌, ◌⊎◌, All, length, true, IfErr, IfOk};
 ghost use Rattle.duct_system.specs.declared.error.Error.TheVariants.{Memory};
-ghost use Rattle.duct_tasks.specs.Turns.{Goes, GoesOn, RanAll};
+ghost use Rattle.duct_tasks.specs.Tasks.{Goes, AreReady, IsPast, RanAll};
+ghost use Rattle.duct_tasks.specs.Turns.{GoesOn};
 
 use crate::crew::Crew;
+use crate::finished::Finished;
+use crate::watch::is_over;
 use duct::Expression;
 use duct_base::error::Error;
 use duct_base::pause::Pause;
 use duct_base::pool::Pool;
 use duct_base::spec::Hook;
-use duct_base::system::{Output, System};
+use duct_base::system::{Clock, Side, System};
 use duct_running::running::Running;
 use duct_system::views::Viewed;
 use std::alloc::Global;
-use std::sync::{Arc, Wait};
+use std::sync::Wait;
+use std::thread::Threads;
+use std::time::Duration;
 
 /// What becomes of the other tasks once one has failed.
 #[derive(Clone, Copy, Debug, PartialEq, Eq, Drop)]
@@ -22,91 +27,127 @@ pub enum AtFailure {
     GoOn,
     /// None is started any more, and those that run are waited for.
     Wait,
-    /// None is started any more, and those that run are sent signal 15, groups of commands that
-    /// lead one as in `run_until`, and waited for.
+    /// None is started any more, and those that run are stopped.
     Stop,
 }
 
-/// Tasks, of which no more run at once than the limit, which is not 0.
+/// Tasks, and how they run.
 #[derive(Drop)]
-pub struct Tasks<'t, E, H> {
+pub struct Tasks<'t, E, H, C> {
     pub all: &'t [Expression<E, H>],
-    pub limit: usize,
+    /// How many run at once at most, which is not 0.
+    pub at_once: usize,
     pub at_failure: AtFailure,
+    /// How long a task may run before it is stopped.
+    pub limit: Option<Duration>,
+    /// How long a task that is stopped may run on after signal 15 before it is killed.
+    pub grace: Duration,
+    /// What says how long tasks run.
+    pub clock: &'t C,
+}
+
+impl<E, H, C: Clock> Tasks<'_, E, H, C> {
+    // Returns whether what began at this moment has run for longer than it may.
+    pub(crate) fn are_late(&self, began: Duration) -> bool
+        ensures { result ≡ true → C.may_show self.now.clock.now began
+            → IsPast (C.may_show self.now.clock.now) self.now.limit }
+    {
+        match self.limit {
+            Some(limit) => is_over(self.clock, began.saturating_add(limit)),
+            None => false,
+        }
+    }
 }
 
 /// What is told of a task.
 #[derive(Drop)]
 pub enum Progress<'a> {
-    /// It was started.
-    Started,
-    /// It has ended with this, or could not be started.
-    Ended(&'a Result<Arc<Output>, Error>),
+    /// It was started, and its commands have these process ids, from left to right.
+    Started(&'a [u32]),
+    /// It wrote this line, without its `\n` or `\r\n`.
+    Line(Side, &'a [u8]),
+    /// It could not be started.
+    Refused(&'a Finished),
+    /// It has ended or was stopped.
+    Ended(&'a Finished),
 }
 
-/// Starts the tasks in order, each as `Expression::launch` does, and never while as many run as the
-/// limit allows: a task runs until a poll has said how it ended. Between two rounds of polls it
-/// pauses as `Expression::run` does. Returns how the tasks ended that were started, each in its
-/// place: as many as there are tasks, unless a failure ended the starts. A task fails where
-/// `Expression::run` would, also where it can't be started; the children of such a task are given
-/// to the pool.
+/// Starts the tasks in order, each as `Expression::launch_reader` does with its stderr in a pipe
+/// too, and never while as many run as may: a task runs until a poll has said how it ended and both
+/// streams came to EOF. Returns what came of those that were started, each in its place: of all,
+/// unless a failure ended the starts. A task fails where `Expression::run` would, where it can't be
+/// started, and where it is stopped.
 ///
-/// `tell` is called with the place of a task where it starts and where it ends.
+/// A task that runs for longer than the limit is stopped, as are all where one has failed and
+/// `at_failure` says so: each of its commands that is not known to have ended is sent signal 15,
+/// and killed once the task has ended or the grace has, groups of commands that lead one as in
+/// `run_until`. Its streams are read on until EOF, but no more than a second after the kill.
 ///
-/// It blocks until no task runs. Where a failure is to stop the others, it waits for a command that
-/// ignores signal 15 until that ends by itself.
+/// `tell` is called with the place of a task where it starts, with each line that it writes once it
+/// is read, and where it ends. The lines of one stream come in their order; between those of both
+/// the order is that in which they are found. Between two rounds of turns in which nothing came the
+/// call pauses as `Expression::run` does. It blocks until no task runs.
 ///
-/// Fails with `Error::Memory`, before anything is started.
+/// The children of a task that has failed are given to the pool. Fails with `Error::Memory`, before
+/// anything is started.
 ///
-/// Example: `run_all(&rt, alloc, &mut host, &mut pool,
-/// Tasks { all: &steps, limit: 4, at_failure: AtFailure::Wait }, |_, _| {})?`
-pub fn run_all<H: Hook, S: System, T: Fn(usize, Progress<'_>)>(
-    rt: &impl Wait,
+/// Example: `run_all(&rt, alloc, &mut host, &mut pool, tasks, &mut |place, told| log.add(told))?`
+pub fn run_all<H: Hook, S: System, C: Clock, T: FnMut(usize, Progress<'_>)>(
+    rt: &(impl Threads + Wait),
     alloc: Global,
     sys: &mut S,
     pool: &mut Pool<S::Child>,
-    tasks: Tasks<'_, S::End, H>,
-    tell: T,
-) -> Result<Vec<Result<Arc<Output>, Error>>, Error>
-    requires some { 0 < tasks.limit }
-    requires told { T.IsAlwaysCallable tell }
-    ensures ran { IfOk result (λ ends. RanAll ⟦<S as Viewed>⟧.views H.allows H.refuses
-        tasks.entry (sys.old, pool.old) ends.items (sys.new, pool.new)) }
+    tasks: Tasks<'_, S::End, H, C>,
+    tell: &mut T,
+) -> Result<Vec<Finished>, Error>
+where
+    S::Reader: Send + 'static,
+    requires some { 0 < tasks.at_once }
+    requires told { (t : T) (place : _) (told : _) → T.pre t place told }
+    ensures ran { IfOk result (λ ends. RanAll ⟦<S as Viewed>⟧.views S.may_read S.Reader.remaining
+        H.allows H.refuses C.may_show tasks.entry (sys.old, pool.old)
+        ends.items (sys.new, pool.new)) }
     ensures failed { IfErr result
         (λ e. (e ≡ Memory) × (sys.new ≡ sys.old) × (pool.new ≡ pool.old)) }
 {
     let room = Vec::with_capacity(alloc, tasks.all.len())?;
     let mut crew = Crew::new(alloc, tasks)?;
-    work(rt, sys, pool, &mut crew, &tell);
+    work(rt, sys, pool, &mut crew, tell);
     Ok(crew.into_ends(room))
 }
 
-// Starts the tasks and polls them until none runs.
-fn work<H: Hook, S: System, T: Fn(usize, Progress<'_>)>(
-    rt: &impl Wait,
+// Starts the tasks and gives them turns until none runs.
+fn work<H: Hook, S: System, C: Clock, T: FnMut(usize, Progress<'_>)>(
+    rt: &(impl Threads + Wait),
     sys: &mut S,
     pool: &mut Pool<S::Child>,
-    crew: &mut Crew<'_, S::End, H, Running<S>>,
-    tell: &T,
+    crew: &mut Crew<'_, S::End, H, C, Running<S>, S::Reader>,
+    tell: &mut T,
 )
-    requires { T.IsAlwaysCallable tell.now }
+where
+    S::Reader: Send + 'static,
+    requires told { (t : T) (place : _) (told : _) → T.pre t place told }
+    requires ready { AreReady ⟦<S as Viewed>⟧.views S.Reader.remaining C.may_show
+        crew.old.tasks crew.old.stopped crew.old.started.items }
     ensures tasks { crew.new.tasks ≡ crew.old.tasks }
     ensures none { crew.new.running ≡ 0 }
-    ensures turns { Goes ⟦<S as Viewed>⟧.views H.allows H.refuses crew.old.stopped crew.new.stopped
-        crew.old.tasks.all.now crew.old.started.items crew.new.started.items sys.old sys.new
-        pool.old.given pool.new.given }
+    ensures goes { Goes ⟦<S as Viewed>⟧.views S.may_read S.Reader.remaining H.allows H.refuses
+        C.may_show crew.old.tasks crew.old.stopped crew.new.stopped crew.old.started.items
+        crew.new.started.items sys.old sys.new pool.old.given pool.new.given }
     ensures over { (length crew.new.tasks.all.now ≤ length crew.new.started.items)
         ⊎ (GoesOn crew.new.tasks.at_failure crew.new.failed → ⊥) }
 {
     let mut pauses = Pause::new();
     for _ in rt.forever() {
-        crew.start_more(sys, pool, tell);
+        crew.start_more(rt, sys, pool, tell);
         if !crew.is_busy() {
             return;
         }
         crew.stop_after_failure(rt, sys, pool);
+        if crew.turn_all(rt, sys, pool, tell) {
+            pauses = Pause::new();
+        }
         pauses.rest(rt);
-        crew.poll_all(pool, tell);
     }
     unreachable!()
 }

@@ -1,5 +1,5 @@
 //! Pauses between two starts or two tries, each longer than the one before.
-ghost use Rattle.std.specs.Prelude.{◌≡◌, false};
+ghost use Rattle.std.specs.Prelude.{◌≡◌};
 ghost use Rattle.std.specs.Duration.{as_nanos};
 ghost use Rattle.duct_tasks.specs.Until.{HasPassed};
 ghost use Rattle.duct_tasks.specs.Pauses.{longer_than};
@@ -27,23 +27,15 @@ pub(crate) fn longer(pause: Duration, first: Duration, greatest: Duration) -> Du
     }
 }
 
-/// Pauses for this long, unless it is to stop. Returns whether it is, which is asked at least once.
-pub(crate) fn pause<C: Clock, F: Fn() -> bool>(
-    rt: &impl Wait,
-    clock: &C,
-    stop: &F,
-    pause: Duration,
-) -> bool
-    requires { F.IsAlwaysCallable stop.now }
-    ensures says { F.post stop.now result }
-    ensures passed { result ≡ false → HasPassed (C.may_show clock.now) pause }
+/// Pauses for this long.
+pub(crate) fn pause<C: Clock>(rt: &impl Wait, clock: &C, pause: Duration)
+    ensures { HasPassed (C.may_show clock.now) pause }
 {
     let mut pauses = Pause::new();
     let end = clock.now().saturating_add(pause);
     for _ in rt.forever() {
-        let stops = stop();
-        if stops || is_over(clock, end) {
-            return stops;
+        if is_over(clock, end) {
+            return;
         }
         pauses.rest(rt);
     }

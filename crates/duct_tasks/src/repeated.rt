@@ -32,7 +32,7 @@ impl<C: Clock> Retries<'_, C> {
         ensures passed { HasPassed (C.may_show self.now.clock.now) result }
     {
         let next = longer(before, self.pause, self.greatest);
-        let _ = pause(rt, self.clock, &|| false, next);
+        pause(rt, self.clock, next);
         next
     }
 }

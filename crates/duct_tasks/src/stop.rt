@@ -35,7 +35,7 @@ pub(crate) fn stop<H: Hook, S: System, C: Clock>(
 {
     let last = deadline.moment.saturating_add(deadline.grace);
     let asked = Asked::new(rt, sys, pool, like, running);
-    let (ended, mut lapsed) = asked.wait(rt, deadline.clock, last, true);
+    let (ended, mut lapsed) = asked.wait(rt, deadline.clock, last);
     let killed = lapsed.kill(rt, sys, pool, like);
     (Late { ended, killed }, lapsed)
 }

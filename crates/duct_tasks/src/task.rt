@@ -1,41 +1,70 @@
 //! A task that was started: how it runs on, and how it ends.
-ghost use Rattle.std.specs.Prelude.{ℕ, Bool, ◌≡◌, ◌≤◌, if◌then◌else◌, true, false, [], length, sum_by, vec_capacity, Some};
+ghost use Rattle.std.specs.Prelude.{Bool, ◌≡◌, ◌≤◌, if◌then◌else◌, true, false, [], drop, length, sum_by, vec_capacity, Some};
 ghost use Rattle.duct_base.specs.Pool.{counted};
 ghost use Rattle.duct_run.specs.Requested.{PoolGets};
 ghost use Rattle.duct_running.specs.NumbersView.{numbers_of};
-ghost use Rattle.duct_tasks.specs.Turns.{Advances, AreEnds, Stops, Turn, failed_of, gives, running_of};
+ghost use Rattle.duct_tasks.specs.Tasks.{AreEnds, GoesIfDue, IsReadyTask, MayStop, StartsTask, TaskGoes, WasAskedTask, failed_of, running_of};
+ghost use Rattle.duct_tasks.specs.Turns.{gives};
 
-use crate::group::order_all;
-use crate::late::TERMINATE;
-use crate::watch::ended;
+use crate::finished::Finished;
+use crate::job::{Came, Job};
+use crate::many::Tasks;
+use crate::request::request_of;
 use duct::Expression;
 use duct_base::error::Error;
 use duct_base::pool::Pool;
 use duct_base::spec::Hook;
-use duct_base::system::{Order, Output, System};
+use duct_base::system::{Entry, Output, Side, System};
 use duct_running::running::Running;
+use duct_system::system::Clock;
 use duct_system::views::Viewed;
+use std::io;
+use std::io::Read;
 use std::mem::replace;
 use std::sync::{Arc, Wait};
+use std::thread::Threads;
 
 /// A task that was started: it runs, or has ended.
-pub(crate) enum Task<R> {
-    Running(R),
-    Ended(Result<Arc<Output>, Error>),
+pub(crate) enum Task<R, L: Read> {
+    Running(Job<R, L>),
+    Ended(Finished),
 }
 
-/// Starts a task. One that can't be started has ended with the error of its start.
-pub(crate) fn started<E: Drop, H: Hook, S: System<End = E>>(
+/// Starts a task. One that can't be started has ended.
+pub(crate) fn started<H: Hook, S: System, C: Clock>(
+    rt: &(impl Threads + Wait),
     sys: &mut S,
     pool: &mut Pool<S::Child>,
-    task: &Expression<E, H>,
-) -> Task<Running<S>>
-    ensures { (given : ℕ) × Turn ⟦<S as Viewed>⟧.views H.allows H.refuses false task.now result
-        given sys.old sys.new × (pool.new.given ≡ counted pool.old.given given) }
+    tasks: &Tasks<'_, S::End, H, C>,
+    task: &Expression<S::End, H>,
+) -> Task<Running<S>, S::Reader>
+where
+    S::Reader: Send + 'static,
+    ensures starts { StartsTask ⟦<S as Viewed>⟧.views S.may_read S.Reader.remaining H.allows
+        H.refuses C.may_show tasks.now task.now sys.old sys.new
+        pool.old.given pool.new.given result }
+    ensures ready { IsReadyTask ⟦<S as Viewed>⟧.views S.Reader.remaining
+        (C.may_show tasks.now.clock.now) result }
 {
-    match task.launch(sys, pool) {
-        Ok(running) => Task::Running(running),
-        Err(error) => Task::Ended(Err(error)),
+    let before = sys.journal().len();
+    match Job::start(rt, sys, pool, tasks, task) {
+        Ok(job) => Task::Running(job),
+        Err(error) => {
+            let added = added_since(sys.journal(), before);
+            let request = request_of(task.allocator(), added);
+            Task::Ended(Finished::refused(task.allocator(), error, request))
+        }
+    }
+}
+
+// Returns the entries that came after the first so many.
+fn added_since(entries: &[Entry], before: usize) -> &[Entry]
+    ensures { result.now ≡ drop before entries.now }
+{
+    if before <= entries.len() {
+        &entries[before..]
+    } else {
+        &[]
     }
 }
 
@@ -51,6 +80,7 @@ pub(crate) fn is_failure(end: &Result<Arc<Output>, Error>) -> bool
 pub(crate) fn spend<S: System>(pool: &mut Pool<S::Child>, running: Running<S>, failed: bool)
     ensures gets { failed ≡ true
         → PoolGets ⟦<S as Viewed>⟧.views running.children pool.old pool.new }
+    ensures stays { failed ≡ false → pool.new ≡ pool.old }
     ensures count { pool.new.given ≡ counted pool.old.given
         (if failed then length (numbers_of ⟦<S as Viewed>⟧.views running).children else 0) }
 {
@@ -61,49 +91,74 @@ pub(crate) fn spend<S: System>(pool: &mut Pool<S::Child>, running: Running<S>, f
     }
 }
 
-/// Polls a task, if it runs. Returns whether it has ended by that.
-pub(crate) fn advance<S: System>(pool: &mut Pool<S::Child>, task: &mut Task<Running<S>>) -> bool
-    ensures goes { (sent : Bool) → (given : ℕ) × Advances ⟦<S as Viewed>⟧.views sent sent task.old
-        task.new given × (pool.new.given ≡ counted pool.old.given given) }
+/// Gives the task at this place a turn, if it runs.
+pub(crate) fn advance<H: Hook, S: System, C: Clock, F: FnMut(Side, &[u8]) -> io::Result<()>>(
+    rt: &(impl Threads + Wait),
+    sys: &mut S,
+    pool: &mut Pool<S::Child>,
+    tasks: &Tasks<'_, S::End, H, C>,
+    like: &Expression<S::End, H>,
+    task: &mut Task<Running<S>, S::Reader>,
+    each: &mut F,
+) -> Came
+where
+    S::Reader: Send + 'static,
+    requires callable { F.IsAlwaysCallable each.old }
+    requires ready { IsReadyTask ⟦<S as Viewed>⟧.views S.Reader.remaining
+        (C.may_show tasks.now.clock.now) task.old }
+    ensures callable { F.IsAlwaysCallable each.new }
+    ensures ready { IsReadyTask ⟦<S as Viewed>⟧.views S.Reader.remaining
+        (C.may_show tasks.now.clock.now) task.new }
+    ensures goes { GoesIfDue ⟦<S as Viewed>⟧.views S.may_read S.Reader.remaining H.allows H.refuses
+        C.may_show tasks.now task.old task.new sys.old sys.new pool.old.given pool.new.given }
     ensures runs { running_of task.new ≤ running_of task.old }
     ensures fails { failed_of task.old ≤ failed_of task.new }
 {
-    let Task::Running(running) = task else {
-        return false;
+    let Task::Running(job) = task else {
+        return Came::Nothing;
     };
-    let Some(end) = ended(running) else {
-        return false;
-    };
-    let failed = is_failure(&end);
-    match replace(task, Task::Ended(end)) {
-        Task::Running(running) => spend(pool, running, failed),
-        Task::Ended(_) => unreachable!(),
+    let came = job.turn(rt, sys, pool, tasks, like, each);
+    if let Came::End = came {
+        let finished = job.finish(like.allocator(), tasks.clock);
+        let failed = finished.has_failed();
+        match replace(task, Task::Ended(finished)) {
+            Task::Running(job) => spend(pool, job.into_running(), failed),
+            Task::Ended(_) => unreachable!(),
+        }
     }
-    true
+    came
 }
 
-/// Sends signal 15 to a task, if it runs, as `order_all` gives an order. One that can't be sent it
-/// is waited for all the same.
-pub(crate) fn terminate<H: Hook, S: System>(
+/// Asks a task to end, if it runs and was not asked before.
+pub(crate) fn ask<H: Hook, S: System, C: Clock>(
     rt: &impl Wait,
     sys: &mut S,
     pool: &mut Pool<S::Child>,
+    tasks: &Tasks<'_, S::End, H, C>,
     like: &Expression<S::End, H>,
-    task: &mut Task<Running<S>>,
+    task: &mut Task<Running<S>, S::Reader>,
 )
-    ensures goes { Advances ⟦<S as Viewed>⟧.views false true task.old task.new 0 }
-    ensures signals { Stops ⟦<S as Viewed>⟧.views H.allows H.refuses (sys.old, pool.old)
-        (sys.new, pool.new) }
+where
+    S::Reader: Send + 'static,
+    requires ready { IsReadyTask ⟦<S as Viewed>⟧.views S.Reader.remaining
+        (C.may_show tasks.now.clock.now) task.old }
+    ensures ready { IsReadyTask ⟦<S as Viewed>⟧.views S.Reader.remaining
+        (C.may_show tasks.now.clock.now) task.new }
+    ensures goes { (stopped : Bool) → MayStop C.may_show tasks.now stopped
+        → TaskGoes ⟦<S as Viewed>⟧.views S.may_read S.Reader.remaining H.allows H.refuses
+        C.may_show tasks.now stopped task.old task.new
+        sys.old sys.new pool.old.given pool.new.given }
     ensures runs { running_of task.new ≡ running_of task.old }
     ensures fails { failed_of task.new ≡ failed_of task.old }
+    ensures asked { WasAskedTask task.new }
 {
-    if let Task::Running(running) = task {
-        let _ = order_all(rt, sys, pool, like, Order::Signal(TERMINATE), running);
+    if let Task::Running(job) = task {
+        job.ask(rt, sys, pool, tasks, like);
     }
 }
 
 /// How many run of a task alone.
-pub(crate) fn running<R>(task: &Task<R>) -> usize
+pub(crate) fn running<R, L: Read>(task: &Task<R, L>) -> usize
     ensures is { result ≡ running_of task.now }
     ensures one { result ≤ 1 }
 {
@@ -114,17 +169,17 @@ pub(crate) fn running<R>(task: &Task<R>) -> usize
 }
 
 /// Whether a task has failed.
-pub(crate) fn has_failed<R>(task: &Task<R>) -> bool
+pub(crate) fn has_failed<R, L: Read>(task: &Task<R, L>) -> bool
     ensures { result ≡ true → failed_of task.now ≡ 1 }
 {
-    matches!(task, Task::Ended(Err(_)))
+    match task {
+        Task::Running(_) => false,
+        Task::Ended(finished) => finished.has_failed(),
+    }
 }
 
-/// Returns how these tasks ended, in this room. None runs.
-pub(crate) fn ends_of<R>(
-    tasks: Vec<Task<R>>,
-    mut room: Vec<Result<Arc<Output>, Error>>,
-) -> Vec<Result<Arc<Output>, Error>>
+/// Returns what came of these tasks, in this room. None runs.
+pub(crate) fn ends_of<R, L: Read>(tasks: Vec<Task<R, L>>, mut room: Vec<Finished>) -> Vec<Finished>
     requires none { sum_by running_of tasks.items ≡ 0 }
     requires empty { room.items ≡ [] }
     requires fits { length tasks.items ≤ vec_capacity room }
@@ -133,7 +188,7 @@ pub(crate) fn ends_of<R>(
     let mut tasks = tasks.into_iter();
     for _ in 0..tasks.len() {
         match tasks.next() {
-            Some(Task::Ended(end)) => room.push_reserved(end),
+            Some(Task::Ended(finished)) => room.push_reserved(finished),
             Some(Task::Running(_running)) => unreachable!(),
             None => unreachable!(),
         }

@@ -40,9 +40,9 @@ pub(crate) fn ended<S: System>(running: &mut Running<S>) -> Option<Result<Arc<Ou
     }
 }
 
-// Whether a poll that returned this ends a wait, which an allocation failure does unless it is
-// patient.
-fn is_final(end: &Option<Result<Arc<Output>, Error>>, is_patient: bool) -> bool
+/// Returns whether a poll that returned this ends a wait, which an allocation failure does unless it
+/// is patient.
+pub(crate) fn is_final(end: &Option<Result<Arc<Output>, Error>>, is_patient: bool) -> bool
     ensures some { result ≡ true → IsSome end.now }
     ensures memory { result ≡ true → is_patient ≡ true
         → IfSome end.now (λ end. at_end end ≡ Err error.Memory → ⊥) }

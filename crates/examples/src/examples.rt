@@ -3,4 +3,5 @@ mod backup;
 mod calling;
 mod deploy;
 mod first_steps;
+mod supervise;
 mod threads;

@@ -3,14 +3,14 @@
 use crate::machine::{Machine, TURNS};
 use crate::programs::{push_line, push_performed};
 use crate::started::{Started, polled, start};
-use crate::tasks::{keep_running, run_tasks};
+use crate::tasks::keep_running;
 use crate::texts::{push_done, push_error, push_polled, push_read, push_run};
 use duct::{Clock, Error, Handle, System};
-use duct_script::is_balanced;
+use duct_script::{is_balanced, open_count};
 use duct_tasks::{Deadline, Until, run_until};
 use rows_table::{
-    Table, TableError, Tree, Writing, children_started, first_word, limits, push_journal,
-    push_pool, push_trace, written_with,
+    Table, TableError, Tree, Writing, children_started, first_word, limits, pipes_of_tasks,
+    push_journal, push_pool, push_trace, written_with,
 };
 use std::alloc::{AllocError, Global};
 use std::mem;
@@ -94,16 +94,15 @@ impl<'t, 'r, R: Wait + Threads, M: Machine> Calls<'t, 'r, R, M> {
         made
     }
 
-    /// Runs the expressions of the row as tasks, or starts the only one again each time that it
-    /// ends.
+    /// Runs the expressions of the row as tasks, or starts each again each time that it ends.
     fn tasks(&mut self, key: &str, text: &str) -> Result<(), TableError> {
         let trees = self.trees()?;
-        let (system, pool, clock) = self.machine.stage();
-        let (rt, alloc, answers) = (self.rt, self.alloc, &mut self.answers);
-        match (key, trees.as_slice()) {
-            ("keep", [tree]) => keep_running(rt, clock, tree, text, system, pool, answers),
-            (_, trees) => run_tasks(rt, alloc, trees, text, system, pool, answers),
+        let (rt, answers) = (self.rt, &mut self.answers);
+        if key == "tasks" {
+            return self.machine.tasks(rt, trees.as_slice(), text, answers);
         }
+        let (system, pool, clock) = self.machine.stage();
+        keep_running(rt, clock, trees.as_slice(), text, system, pool, answers)
     }
 
     /// Starts the expression of the row, and makes these calls on what was started. The last one
@@ -286,7 +285,12 @@ impl<'t, 'r, R: Wait + Threads, M: Machine> Calls<'t, 'r, R, M> {
     /// Fails if an end is not spent, or if the pool was given another number of children than it
     /// had to be.
     fn check(&mut self) -> Result<(), TableError> {
-        if !is_balanced(self.alloc, self.machine.stage().0.journal())? {
+        let journal = self.machine.stage().0.journal();
+        let is_spent = match pipes_of_tasks(journal) {
+            0 => is_balanced(self.alloc, journal)?,
+            owned => open_count(self.alloc, journal)? == owned,
+        };
+        if !is_spent {
             return Err(TableError::Text("an end is not spent"));
         }
         if self.is_lost {

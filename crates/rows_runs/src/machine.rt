@@ -1,6 +1,8 @@
 //! What the table of calls needs of a machine besides the requests of the library.
 use duct::{Clock, Place, Pool, System};
-use rows_table::{Lender, TableError};
+use rows_table::{Lender, TableError, Tree};
+use std::sync::Wait;
+use std::thread::Threads;
 
 /// The greatest number of polls or sweeps while something still runs.
 pub const TURNS: u32 = 30_000;
@@ -36,6 +38,18 @@ pub trait Machine: Lender + Drop {
     /// Makes a call that only this machine has, and adds its result. What runs has children of
     /// these ids. Fails if there is no such call.
     fn call(&mut self, call: &str, ids: &[u32], answer: &mut String) -> Result<(), TableError>;
+
+    /// Runs expressions as tasks over the system, as a line of the row says, and adds what came of
+    /// each. Fails if the machine has no tasks.
+    fn tasks(
+        &mut self,
+        _rt: &(impl Threads + Wait),
+        _trees: &[Tree<Self::End>],
+        _text: &str,
+        _answers: &mut String,
+    ) -> Result<(), TableError> {
+        Err(TableError::Text("no tasks"))
+    }
 
     /// Takes the children and workers of what ran, and keeps of them what later lines of the row
     /// are compared with.

@@ -1,12 +1,15 @@
 //! The table of calls over the scripted system (`docs/ROWS.md`).
 use crate::machine::{Machine, PartsOf, PoolOf};
+use crate::tasks::run_tasks;
 use duct::{Numbered, System};
 use duct_script::{Script, ScriptChild, ScriptClock, ScriptEnd};
 use rows_table::{
-    Bench, Lender, Log, Strangers, TableError, duration, most_held, program_of, push_calls,
+    Bench, Lender, Log, Strangers, TableError, Tree, duration, most_held, program_of, push_calls,
     push_turns,
 };
 use std::alloc::{AllocError, Global};
+use std::sync::Wait;
+use std::thread::Threads;
 
 /// The scripted system of a row.
 #[derive(Drop)]
@@ -111,6 +114,17 @@ impl Machine for Scripted {
             _ => return Err(TableError::Text("no such key")),
         }
         Ok(true)
+    }
+
+    fn tasks(
+        &mut self,
+        rt: &(impl Threads + Wait),
+        trees: &[Tree<Self::End>],
+        text: &str,
+        answers: &mut String,
+    ) -> Result<(), TableError> {
+        let (system, pool) = (&mut self.bench.sys, &mut self.bench.pool);
+        run_tasks(rt, &self.clock, trees, text, system, pool, answers)
     }
 
     fn call(&mut self, call: &str, ids: &[u32], answer: &mut String) -> Result<(), TableError> {

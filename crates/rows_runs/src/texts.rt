@@ -1,6 +1,6 @@
 //! Texts for the results of calls.
 use duct::{Error, Output, ReaderHandle, System};
-use duct_tasks::{Late, Until};
+use duct_tasks::{Finished, Late, TaskEnd, Until};
 use rows_table::{Bytes, LONG};
 use std::alloc::{AllocError, Global};
 use std::io::Read;
@@ -41,6 +41,19 @@ pub fn push_run(
         Ok(Until::Done(output)) => push_output(text, output),
         Ok(Until::Late(late)) => push_late(text, late),
         Err(error) => push_error(text, error),
+    }
+}
+
+/// Adds what came of a task: its status with what it wrote, how it was late, or why it failed.
+pub fn push_finished(text: &mut String, finished: &Finished) -> Result<(), AllocError> {
+    match &finished.end {
+        TaskEnd::Late(late) => push_late(text, late),
+        TaskEnd::Ended(Ok(output)) if !finished.has_failed() => {
+            let out = Bytes(finished.stdout.as_slice());
+            let err = Bytes(finished.stderr.as_slice());
+            write!(text, "{:?} out={out} err={err}. ", output.status)
+        }
+        TaskEnd::Refused(_) | TaskEnd::Ended(_) => write!(text, "{finished}. "),
     }
 }
 

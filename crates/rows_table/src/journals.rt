@@ -125,6 +125,14 @@ pub fn children_started(entries: &[Entry]) -> u64 {
     started.count() as u64
 }
 
+/// Returns how many pipes were opened for the stderr of tasks, which are read at once. Their write
+/// ends belong to expressions, so that no request closes them.
+pub fn pipes_of_tasks(entries: &[Entry]) -> usize {
+    let pairs = entries.iter().zip(entries.iter().skip(1));
+    let pipes = pairs.filter(|it| matches!(it, (Entry::Pipe(_), Entry::Reader(_))));
+    pipes.count()
+}
+
 /// Adds how many children the pool keeps, was given, has reaped, and has lost. Fails on an
 /// allocation failure.
 pub fn push_pool<C: Drop>(text: &mut String, pool: &Pool<C>) -> Result<(), AllocError> {

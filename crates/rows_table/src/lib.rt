@@ -16,8 +16,8 @@ mod words;
 pub use bytes::{Bytes, LONG};
 pub use expressions::{Lender, Log, Strangers, Tree, Writing, written, written_with};
 pub use journals::{
-    children_started, most_held, program_of, push_calls, push_journal, push_pool, push_trace,
-    push_turns,
+    children_started, most_held, pipes_of_tasks, program_of, push_calls, push_journal, push_pool,
+    push_trace, push_turns,
 };
 pub use real::{Real, count_left, filled};
 pub use scenes::{Bench, Named, set_system};

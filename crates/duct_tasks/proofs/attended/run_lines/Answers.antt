@@ -16,7 +16,7 @@ returns-in_err-captured g c =
       run = (
         grace,
         subst (λ (n : ℕ). IsLinesRun views g.S.System.may_read g.S.Reader.Read.remaining
-            (Hands g.F.FnMut (Ok tt)) g.H.Hook.allows g.H.Hook.refuses c.args.expression.now grace
+            (Hands g.F.FnMut) g.H.Hook.allows g.H.Hook.refuses c.args.expression.now grace
             (λ moment. as_nanos moment ≡ 0) n c.args.each.now c.run_lines_until.new.each
             (c.args.sys.now, c.args.pool.now) (Err c.in_err-captured.field-0.0)
             (c.run_lines_until.new.sys, c.run_lines_until.new.pool)) c.from_nanos-moment.ensures
@@ -32,7 +32,7 @@ returns g c =
       run = (
         grace,
         subst (λ (n : ℕ). IsLinesRun views g.S.System.may_read g.S.Reader.Read.remaining
-            (Hands g.F.FnMut (Ok tt)) g.H.Hook.allows g.H.Hook.refuses c.args.expression.now grace
+            (Hands g.F.FnMut) g.H.Hook.allows g.H.Hook.refuses c.args.expression.now grace
             (λ moment. as_nanos moment ≡ 0) n c.args.each.now c.run_lines_until.new.each
             (c.args.sys.now, c.args.pool.now) (Ok (until.Done c.in-Done.captured))
             (c.run_lines_until.new.sys, c.run_lines_until.new.pool)) c.from_nanos-moment.ensures

@@ -86,11 +86,15 @@ returns-in_err-stop-in-None g c =
         c.in_ok-inside.err,
         c.in_ok-inside.ensures.ok,
         stops_inside views g.S.System.may_read g.S.Reader.Read.remaining
-            (Hands g.F.FnMut (Ok tt)) g.H.Hook.allows g.H.Hook.refuses c.args.expression.now
+            (Hands g.F.FnMut) g.H.Hook.allows g.H.Hook.refuses c.args.expression.now
             c.args.deadline.now.grace (g.C.Clock.may_show c.args.deadline.now.clock.now)
             (as_nanos c.args.deadline.now.moment) c.args.each.now c.stop.new.each
             (c.piped.new.sys, c.args.pool.now) inside c.in_ok-inside.err
             c.in_err-stop-in-None.field-0.0 (c.stop.new.sys, c.stop.new.pool) stopped.0
+            (c.in_err-stop-in-None.ensures.failed c.args.each.now (c.wait.ensures.hands
+            c.args.each.now (handed_none g.S.Reader.Read.remaining g.F.FnMut c.in-Ok.streams
+            c.args.each.now c.in-Ok.ensures.both c.in-Ok.ensures.none c.in-Ok.ensures.no_output
+            c.in-Ok.ensures.no_error)))
             (launch_stopped views g.S.System.may_read g.H.Hook.allows g.H.Hook.refuses inside
             (c.piped.new.sys, c.args.pool.now) (c.launch_reader.new.sys, c.launch_reader.new.pool)
             c.in_ok-running.running c.wait.new.self.running c.in_ok-running.out

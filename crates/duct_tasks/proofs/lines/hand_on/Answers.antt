@@ -11,7 +11,7 @@ returns-in_err-each-clause-err g c =
     let p = err_from_is_err_and c.from_residual.result c.from_residual.ensures.1 in
     rw (p.1, p.2) (
       c.loop-line.each,
-      without_end c.in-Some.line.now,
+      (c.args.side, without_end c.in-Some.line.now),
       record { shown = c.without_end.result; shows = c.without_end.ensures; called = c.in_err-each.ensures },
     )
 

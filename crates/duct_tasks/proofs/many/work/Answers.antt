@@ -1,6 +1,5 @@
-use Rattle.std.proofs.Common.{ap, refl, ◌∙◌}
-use Rattle.duct_tasks.proofs.Common.{Tasks}
-use Rattle.duct_tasks.proofs.Turning.{goes_nowhere, goes_on}
+use Rattle.std.proofs.Common.{refl, ◌∙◌}
+use Rattle.duct_tasks.proofs.Moving.{goes_nowhere, goes_on}
 use Rattle.duct_tasks.proofs.many.work.Goals as goal
 
 pub loop-init : goal.loop-init
@@ -10,7 +9,9 @@ loop-init g c =
       can = tt;
       ends = tt;
       tasks = refl;
-      turns = goes_nowhere crew.stopped crew.started.items c.args.sys.now c.args.pool.now.given;
+      ready = c.requires.ready;
+      goes = goes_nowhere crew.tasks crew.stopped crew.started.items c.args.sys.now
+          c.args.pool.now.given;
     }
 
 pub loop-preserved : goal.loop-preserved
@@ -18,19 +19,15 @@ loop-preserved g c =
     let i = c.loop.invariant in
     let asked = c.start_more.ensures.tasks ∙ i.tasks in
     let still = c.stop_after_failure.ensures.tasks ∙ asked in
-    let started = goes_on (ap (λ (t : Tasks _ _). t.all.now) i.tasks) i.turns
-    c.start_more.ensures.turns in
-    let stopped = goes_on (ap (λ (t : Tasks _ _). t.all.now) asked) started
-    c.stop_after_failure.ensures.turns in
     record {
       can = tt;
       ends = tt;
-      tasks = c.poll_all.ensures.tasks ∙ still;
-      turns = goes_on (ap (λ (t : Tasks _ _). t.all.now) still) stopped
-          (c.poll_all.ensures.turns c.stop_after_failure.new.sys);
+      tasks = c.turn_all.ensures.tasks ∙ still;
+      ready = c.turn_all.ensures.ready;
+      goes = goes_on still (goes_on asked (goes_on i.tasks i.goes c.start_more.ensures.goes)
+          c.stop_after_failure.ensures.goes) c.turn_all.ensures.goes;
     }
 
-pub returns-then-not-is_busy-clause-turns : goal.returns-then-not-is_busy-clause-turns
-returns-then-not-is_busy-clause-turns g c =
-    goes_on (ap (λ (t : Tasks _ _). t.all.now) c.loop.invariant.tasks) c.loop.invariant.turns
-    c.start_more.ensures.turns
+pub returns-then-not-is_busy-clause-goes : goal.returns-then-not-is_busy-clause-goes
+returns-then-not-is_busy-clause-goes g c =
+    goes_on c.loop.invariant.tasks c.loop.invariant.goes c.start_more.ensures.goes

@@ -6,7 +6,7 @@ pub returns-clause-grace : goal.returns-clause-grace
 returns-clause-grace g c = (
   if_none_with c.wait-ended.result.0 c.wait-ended.ensures.late
       (λ late. rw (← c.saturating_add-last.ensures) late),
-  if_some_with c.wait-ended.result.0 (c.wait-ended.ensures.patient refl)
+  if_some_with c.wait-ended.result.0 c.wait-ended.ensures.patient
       (λ end late memory. let says = late memory in
       rw (← c.saturating_add-last.ensures) says),
 )

@@ -15,3 +15,21 @@ returns-in-Ok-clause-calls g c = (
     },
   ),
 )
+
+pub returns-clause-calls : goal.returns-clause-calls
+returns-clause-calls g c = (
+  c.run_lines_until.new.each,
+  (
+    c.begin-entries.new.system,
+    c.begin-entries.ensures.begins,
+    c.in-Err.error,
+    record {
+      now = _;
+      shown = c.now.ensures;
+      moment = _;
+      counted = c.saturating_add-moment.ensures;
+      done = c.in-Err.ensures.run;
+    },
+    rw c.begin-entries.ensures.entries at c.lines_failure.ensures,
+  ),
+)

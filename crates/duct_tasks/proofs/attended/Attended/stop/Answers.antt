@@ -2,7 +2,7 @@
 use Rattle.std.proofs.Common.{◌∙◌, refl}
 use Rattle.duct_tasks.proofs.Common.{err_from_is_err_and}
 use Rattle.duct_tasks.proofs.Ending.{if_none_with, if_some_with}
-use Rattle.duct_tasks.proofs.Handing.{gives_lines, ok_before}
+use Rattle.duct_tasks.proofs.Handing.{failed_by, gives_lines, ok_before}
 use Rattle.duct_tasks.proofs.attended.Attended.stop.Goals as goal
 
 pub returns-clause-ok : goal.returns-clause-ok
@@ -20,7 +20,7 @@ returns-clause-late g c =
       patient = (
         if_none_with c.wait-ended.result.0 c.wait-ended.ensures.late
             (λ late. rw (← c.end_of_grace-last.ensures ok) late),
-        if_some_with c.wait-ended.result.0 (c.wait-ended.ensures.patient refl)
+        if_some_with c.wait-ended.result.0 c.wait-ended.ensures.patient
             (λ end late memory. let says = late memory in
             rw (← c.end_of_grace-last.ensures ok) says),
       );
@@ -75,6 +75,13 @@ returns-in_err-stdout-clause-stopped g c =
         gets = rw (← c.into_running.ensures) c.give_up.ensures;
       },
     )
+
+pub returns-in_err-stdout-clause-failed : goal.returns-in_err-stdout-clause-failed
+returns-in_err-stdout-clause-failed g c =
+    let p = err_from_is_err_and c.from_residual.result c.from_residual.ensures.1 in
+    rw (p.1, p.2) (λ f was. failed_by g.S.Reader.Read.remaining g.F.FnMut c.read-2.new.self f
+    c.read-2.new.each c.in_err-stdout.field-0.0
+    (c.read-2.ensures.hands f (c.read.ensures.hands f was)) c.in_err-stdout.ensures.err)
 
 pub returns-clause-gives : goal.returns-clause-gives
 returns-clause-gives g c =
