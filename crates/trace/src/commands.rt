@@ -17,14 +17,12 @@ use duct::{Entry, Expression, Hook, Numbered, System};
 use duct_program::{NoHook, Program, Usage, line, path_and_words, perform, text_at};
 use duct_replay::{
     Recording, Records, Refusal, Replay, ReplayEnd, ReplayReader, Values, Verdict, judge,
-    read_recording, recording_text,
+    private_file, read_recording, recording_text,
 };
 use duct_shell::RequestText;
 use duct_system::views::Viewed;
 use std::alloc::{AllocError, Global};
-use std::fs::{OpenFile, OpenOptions, Permissions};
-use std::io::{self, Read, Write};
-use std::os::unix::fs::{OpenOptionsExt, PermissionsExt};
+use std::io::{Read, Write};
 use std::rt::Files;
 use std::sync::Wait;
 
@@ -32,19 +30,6 @@ const RECORD: Program = Program {
     no_memory: "record: out of memory\n",
     failed: 3,
 };
-
-/// Makes the file of a journal, or empties it if it is there. If it is a regular file, it is then
-/// its owner's alone. Fails, with what was there unchanged, if the file can't be written.
-fn journal_file<R: Files>(rt: &R, path: &str) -> io::Result<R::File> {
-    let owner = 0o600;
-    let mut options = OpenOptions::new();
-    let file = options.write(true).create(true).mode(owner).open(rt, path)?;
-    if file.metadata()?.is_file() {
-        file.set_permissions(Permissions::from_mode(owner))?;
-        file.set_len(0)?;
-    }
-    Ok(file)
-}
 
 /// Does what the arguments ask for. Returns the status.
 pub fn recorded<R: Files + Wait + AllocGlobal, S: Records, O: Write, E: Write>(
@@ -62,7 +47,7 @@ pub fn recorded<R: Files + Wait + AllocGlobal, S: Records, O: Write, E: Write>(
         let usage = "record: usage: trace record [--hide] JOURNAL -- WORD..\n";
         return RECORD.tell(err, 2, usage);
     };
-    match journal_file(rt, path) {
+    match private_file(rt, path) {
         Ok(mut file) => record(rt, rt.alloc(), sys, words, values, &mut file, out, err),
         Err(error) => RECORD.tell_error(err, &error, 2, "record: journal can't be opened\n"),
     }
