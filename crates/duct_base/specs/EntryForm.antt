@@ -48,7 +48,7 @@ fault_form None = plain []
 abbrev pub entry_form : EntryView → Form
 entry_form entry = joined (request_form entry ∷ fault_form (fault_of entry) ∷ [])
 
--- the text of the request of an entry, where its paths, its words and its folder are printable ASCII
+-- the text of the request of an entry, where its paths, words and folder are printable ASCII
 abbrev pub request_text : EntryView → Option (List ℕ)
 request_text entry = text_of (request_form entry)
 

@@ -1,7 +1,7 @@
 //! What every part of duct uses: the interface to the operating system, the spec of a command, the
-//! errors, statuses and abandoned children; entries as text; workers, which write bytes to an end or
-//! read an end to EOF, each on a thread of its own; and the pauses of waits. It knows nothing about
-//! expressions.
+//! errors, statuses and abandoned children; entries as text; workers, which write bytes to an end
+//! or read an end to EOF, each on a thread of its own; and the pauses of waits. It knows nothing
+//! about expressions.
 #![tactic(auto)]
 
 pub use duct_status::{per_side, status};

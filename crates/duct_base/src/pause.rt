@@ -42,6 +42,15 @@ impl Pause {
         }
     }
 
+    /// Begins the parks anew, without more yields: for a wait for several things, once one came.
+    pub fn restart(&mut self)
+        ensures { (self.new.yields ≡ self.old.yields) × (self.new.waited ≡ 0)
+            × (self.new.park ≡ 20) }
+    {
+        self.waited = 0;
+        self.park = FIRST;
+    }
+
     /// How long the next pause parks, in microseconds, or `None` for one that yields.
     fn next(&mut self) -> Option<u64>
         ensures yields { IfNone result ((self.old.yields < 64)

@@ -25,8 +25,10 @@ use Rattle.duct_shell.specs.declared.failure.Failure.{Failure}
 -- the failure of a call for which its lines were not handed on: an error of the closure; or another
 -- one, which names the request of these entries
 abbrev pub IsFailureOf : LinesError → List EntryView → Failure → Type 0
-IsFailureOf (lines.Closure e) added failure = failure ≡ record { cause = cause.Io e; request = None }
-IsFailureOf (lines.Run e) added failure = (failure.cause ≡ cause.Run e) × Names added failure.request
+IsFailureOf (lines.Closure e) added failure =
+    failure ≡ record { cause = cause.Io e; request = None }
+IsFailureOf (lines.Run e) added failure =
+    (failure.cause ≡ cause.Run e) × Names added failure.request
 
 module _ {S : Type 0} (journal : S → JournalView) where
   -- the journal was cleared; or it is kept, and nothing was done

@@ -85,9 +85,11 @@ where
 {
     /// Runs an expression, and hands on each line that it writes to stdout or to stderr once it is
     /// read, with its stream and without its `\n` or `\r\n`, as the function of this name does. It
-    /// blocks until the expression has ended, and returns all that it wrote, as `run_captured` does.
+    /// blocks until the expression has ended, and returns all that it wrote, as `run_captured`
+    /// does.
     ///
-    /// Fails as the function does, with an error of the closure as `Cause::Io`, and leaves the same.
+    /// Fails as the function does, with an error of the closure as `Cause::Io`, and leaves the
+    /// same.
     ///
     /// Example: `sh.run_lines(&cmd!(sh; "make")?, |_, line| log.add(line))?.checked(4096)?`
     pub fn run_lines<F: FnMut(Side, &[u8]) -> io::Result<()>>(

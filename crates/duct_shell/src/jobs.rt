@@ -143,8 +143,8 @@ impl<S: System, R, H: Hook> Shell<S, R, H> {
     /// doesn't wait until that has ended. A job that is never spent is given up where the shell is
     /// dropped.
     ///
-    /// Fails as `Expression::launch` does, and leaves the same, and with `Error::Memory` where there
-    /// is no room for the job; then nothing was requested.
+    /// Fails as `Expression::launch` does, and leaves the same, and with `Error::Memory` where
+    /// there is no room for the job; then nothing was requested.
     ///
     /// Example: `let server = sh.launch(&cmd!(sh; "server")?)?;`
     pub fn launch(&mut self, expression: &Expression<S::End, H>) -> Result<Job, Failure>
@@ -231,8 +231,8 @@ impl<S: System, R: Wait, H> Shell<S, R, H> {
 }
 
 impl<S: System, R, H> Shell<S, R, H> {
-    /// Returns the process ids of a job's children, as `Handle::pids` does: one a command, from left
-    /// to right. It doesn't block.
+    /// Returns the process ids of a job's children, as `Handle::pids` does: one a command, from
+    /// left to right. It doesn't block.
     ///
     /// Fails with `Cause::NoJob`.
     ///

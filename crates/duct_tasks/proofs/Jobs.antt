@@ -285,6 +285,17 @@ module _ {S E C F D : Type 0} (views : SystemViews S E C F D (Unit {0}) Bytes) {
         on = λ start is. next.on start (first.on start is);
       }
 
+  -- it goes on without a request, and then so
+  pub first_on : (before between : Job (RunningView C F D) R) (after : Task (RunningView C F D) R)
+      (sys left : S) (had has : ℕ) → IsDueAt Due between.step → JobOn before between
+      → TaskGoes views may remaining allows refuses may_show tasks stopped (Running between) after
+      sys left had has
+      → TaskGoes views may remaining allows refuses may_show tasks stopped (Running before) after
+      sys left had has
+  first_on before between after sys left had has due on next =
+      then_on (Running before) (Running between) after sys sys left had had has
+      (stays_on before between sys had due on) next
+
   -- its streams were read
   pub read_on : (job : Job (RunningView C F D) R) (streams : BothLines R)
       → streams.out.first.value ≡ job.streams.out.first.value

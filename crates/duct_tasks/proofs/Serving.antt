@@ -8,11 +8,11 @@ use Rattle.duct_system.specs.declared.system.Order.{Order}
 use Rattle.duct_system.specs.declared.system.Order.TheVariants.{Kill}
 use Rattle.duct_tasks.proofs.Common.{Allows, Bytes, End, Error, Expression, HasOrders, LaunchRefused, PolledOnce, PoolView, Refuses, RunningView, RunsAlike, ShapeView, StaysSame, SystemViews, counted, draining, length-map}
 use Rattle.duct_tasks.proofs.Ending.{if_none_with, if_some_with}
-use Rattle.duct_tasks.proofs.Signalled.{processes_after, processes_left, signals_left}
+use Rattle.duct_tasks.proofs.Signalled.{orders_left, processes_after, processes_left, signals_left}
 use Rattle.duct_tasks.proofs.Staying.{alike}
 use Rattle.duct_tasks.specs.Groups.{AllGiven, Given, OrdersAll, Tries, leaders}
 use Rattle.duct_tasks.specs.Pauses.{HasRested, longer_than, pause_after}
-use Rattle.duct_tasks.specs.Services.{Halts, HasPassedIf, IsAfter, IsAt, IsLiveAt, Known, Phase, Stand, StandsAt, StartedNone, after_end, after_start, is_over, known, rests_if}
+use Rattle.duct_tasks.specs.Services.{Halts, HasPassedIf, IsAfter, IsAt, IsLiveAt, Known, MayStart, Phase, Stand, StandsAt, StartedNone, after_end, after_start, is_over, known, rests_if}
 use Rattle.duct_tasks.specs.Services.Phase.{asked, over, rests, runs}
 use Rattle.duct_tasks.specs.Until.{HasPassed, HasReached, StoresEnd, UnlessEnded}
 use Rattle.duct_tasks.specs.declared.keeper.Restarts.{Restarts}
@@ -228,47 +228,53 @@ module _ {S E C F D : Type 0} (views : SystemViews S E C F D (Unit {0}) Bytes) w
         at.at)
 
     -- what was given no order was polled
-    pub unordered_polled : (live polled : Live (RunningView C F D)) (phase : Phase)
-        → known views polled.running ≡ known views live.running
-        → (HasOrders views false live.running → HasOrders views false polled.running)
-        → polled.began ≡ live.began → IsLiveAt views restarts shows None live phase
-        → IsLiveAt views restarts shows None polled phase
-    unordered_polled live polled phase same still began at = (
-      at.0 ∙ ap (λ (k : Known). runs k) (sym same),
-      still at.1,
-      subst (λ (moment : Duration). shows moment) (sym began) at.2,
-    )
+    pub unordered_polled : (old : Service (RunningView C F D)) (from : Stand)
+        (live : Live (RunningView C F D)) (polled : RunningView C F D)
+        → old.state ≡ state.Runs live → live.asked ≡ None → StaysSame views live.running polled
+        → PolledOnce views live.running polled → IsAt views restarts shows old from
+        → IsLiveAt views restarts shows None (record live { running = polled }) from.phase
+    unordered_polled old from live polled is was stays polls at =
+        let before = runs_at old from live None is was at in (
+          before.0 ∙ ap (λ (k : Known). runs k) (sym (known_polled live.running polled stays polls)),
+          orders_left views false live.running polled polls before.1,
+          before.2,
+        )
 
     -- it runs on
     pub goes_to : (old : Service (RunningView C F D)) (from : Stand) (live : Live (RunningView C F D))
-        (phase : Phase) → IsAt views restarts shows old from
-        → IsLiveAt views restarts shows live.asked live phase
+        (phase : Phase) (moment : Option Duration) → IsAt views restarts shows old from
+        → live.asked ≡ moment → IsLiveAt views restarts shows moment live phase
         → IsAt views restarts shows (record old { state = state.Runs live })
         (record from { phase = phase })
-    goes_to old from live phase is at = record {
+    goes_to old from live phase moment is was at = record {
       starts = is.starts;
       row = is.row;
       last = is.last;
       pause = is.pause;
-      at = at;
+      at = subst (λ (a : Option Duration). IsLiveAt views restarts shows a live phase) (sym was) at;
     }
 
-    -- the pause after some starts has passed
-    pub rested : (old : Service (RunningView C F D)) (from : Stand) (rest now : Duration)
-        → IsAt views restarts shows old from → shows now → as_nanos rest ≤ as_nanos now
-        → (0 < from.row → IsAfter views restarts shows old.pause rest) → 0 < from.row
-        → HasRested shows restarts.pause restarts.greatest from.row
-    rested old from rest now is shown passed pauses some =
-        let after = pauses some in (
-          old.pause,
-          is.pause,
-          (
-            after.0,
-            after.1,
+    -- what rests may be started once the pause after the starts before has passed
+    pub may_start : (stops : Bool) (old : Service (RunningView C F D)) (from : Stand)
+        (rest now : Duration) → old.state ≡ state.Rests rest → IsAt views restarts shows old from
+        → old.row < restarts.most → stops ≡ false → shows now → as_nanos rest ≤ as_nanos now
+        → MayStart restarts (λ said. stops ≡ said) shows from
+    may_start stops old from rest now is at few said shown passed =
+        let before = rests_at old from rest is at in record {
+          idle = before.0;
+          few = omega (arith, few, at.row);
+          asked = said;
+          rested = λ some. let after = before.1 some in (
+            old.pause,
+            at.pause,
             (
-              now,
-              shown,
-              subst (λ (n : ℕ). n ≤ as_nanos now) after.2 passed,
+              after.0,
+              after.1,
+              (
+                now,
+                shown,
+                subst (λ (n : ℕ). n ≤ as_nanos now) after.2 passed,
+              ),
             ),
-          ),
-        )
+          );
+        }

@@ -123,8 +123,8 @@ abbrev pub Given : Type 0
 Given = Option Bool × Obeyed
 
 module _ (may : ℕ → Order → Bool → Obeyed → Type 0) (order : Order) where
-  -- a child was given the order if it had not ended; or its group was sent the signal, the result is
-  -- Ok and the child is as before
+  -- a child was given the order if it had not ended; or its group was sent the signal, the result
+  -- is Ok and the child is as before
   abbrev pub IsGiven : ChildView → Given → ChildView → Type 0
   IsGiven before (None, answer) after = OrderedIfDue may order before answer after
   IsGiven before (Some false, answer) after = OrderedIfDue may order before answer after

@@ -18,4 +18,5 @@ pause_after first greatest (suc before) =
 -- the clock has shown the moments between which the last of so many pauses lies
 abbrev pub HasRested : (Duration → Type 0) → Duration → Duration → ℕ → Type 0
 HasRested shows first greatest pauses =
-    (pause : Duration) × (as_nanos pause ≡ pause_after first greatest pauses) × HasPassed shows pause
+    (pause : Duration) × (as_nanos pause ≡ pause_after first greatest pauses)
+    × HasPassed shows pause

@@ -32,8 +32,8 @@ use Rattle.duct_tasks.specs.declared.service.Service.{Service}
 use Rattle.duct_tasks.specs.declared.service.State.{State}
 use Rattle.duct_tasks.specs.declared.service.State.TheVariants as state
 
--- whether each command of an expression that ended like this has ended: with an output, or a checked
--- failure
+-- whether each command of an expression that ended like this has ended: with an output, or a
+-- checked failure
 abbrev pub is_over : End → Bool
 is_over (Ok output) = true
 is_over (Err (error.Checked text)) = true
@@ -52,8 +52,8 @@ pub data Phase : Type 0 where
   asked : Known → Tries → Phase
   over : Why → Phase
 
--- where a service stands: how often it was started, how many of these starts are in a row, which are
--- those since the last run of a healthy length, how the last one ended, and how far it has come
+-- where a service stands: how often it was started, how many of these starts are in a row, which
+-- are those since the last run of a healthy length, how the last one ended, and how far it has come
 pub record Stand : Type 0 where
   pub starts : ℕ
   pub row : ℕ
@@ -83,9 +83,9 @@ after_end from end is_healthy = record {
   phase = rests_if (is_over end);
 }
 
--- what is done for a service: it is started; or that is refused, where this says whether no child was
--- started; what ran ends by itself, after a healthy length or not; it is sent signal 15; it ends
--- after that, or is killed; or there is no further start
+-- what is done for a service: it is started; or that is refused, where this says whether no child
+-- was started; what ran ends by itself, after a healthy length or not; it is sent signal 15; it
+-- ends after that, or is killed; or there is no further start
 pub data Deed (C F D : Type 0) : Type 0 where
   starts : RunningView C F D → Deed C F D
   refused : Error → Bool → Deed C F D
@@ -138,8 +138,8 @@ module _ {S E C F D : Type 0} (views : SystemViews S E C F D (Unit {0}) Bytes) w
         → before.1.given ≡ greatest
 
   module _ {H : Type 0} (allows : Allows H) (refuses : Refuses H) where
-    -- what was sent signal 15 was polled, and had ended like this, or the grace had passed; and then
-    -- what had not ended of it was killed, and the groups of its commands that lead one
+    -- what was sent signal 15 was polled, and had ended like this, or the grace had passed; and
+    -- then what had not ended of it was killed, and the groups of its commands that lead one
     pub record Halts (shows : Duration → Type 0) (grace : Duration) (late : Late) (tries : Tries)
         (before : S × PoolView C) (killed : RunningView C F D) (after : S × PoolView C) : Type 0
       where
@@ -148,7 +148,8 @@ module _ {S E C F D : Type 0} (views : SystemViews S E C F D (Unit {0}) Bytes) w
         pub led : map (λ t. is_some t) tries ≡ leaders (shape_view polled.shape)
         pub lapsed : HasLapsed views tries late.ended polled
         pub patient : UnlessEnded late.ended (HasPassed shows grace)
-        pub ordered : OrdersAll views Kill allows refuses kills before polled late.killed after killed
+        pub ordered : OrdersAll views Kill allows refuses kills before polled late.killed after
+            killed
         pub alike : RunsAlike views polled killed
 
     module _ (restarts : Restarts) (says : Bool → Type 0) (shows : Duration → Type 0)
@@ -157,7 +158,8 @@ module _ {S E C F D : Type 0} (views : SystemViews S E C F D (Unit {0}) Bytes) w
       abbrev pub IsDeed : S × PoolView C → Stand → Deed C F D → S × PoolView C → Stand → Type 0
       IsDeed before from (starts running) after to =
           MayStart restarts says shows from
-          × Launched views allows draining root before.0 after.0 before.1 after.1 (Runs views running)
+          × Launched views allows draining root before.0 after.0 before.1 after.1
+          (Runs views running)
           × (to ≡ after_start from from.last (runs (known running)))
       IsDeed before from (refused e none) after to =
           MayStart restarts says shows from
@@ -274,10 +276,11 @@ module _ {S E C F D : Type 0} (views : SystemViews S E C F D (Unit {0}) Bytes) {
       × IsAt views services.restarts shown new (after_end from end is_healthy)
 
   module _ (allows : Allows H) (refuses : Refuses H) (says : Bool → Type 0) where
-    -- from where it stands, nothing is done for a service, or one thing, and this is where it is then
+    -- from where it stands, nothing or one thing is done for a service, and it stands here then
     abbrev pub Advances : Expression E H → S × PoolView C → Service (RunningView C F D)
         → S × PoolView C → Service (RunningView C F D) → Type 0
-    Advances root before old after new = (from : Stand) → IsAt views services.restarts shown old from
+    Advances root before old after new = (from : Stand)
+        → IsAt views services.restarts shown old from
         → (to : Stand) × IsAt views services.restarts shown new to
         × (((after ≡ before) × (to ≡ from)) ⊎ ((deed : Deed C F D)
         × IsDeed views allows refuses services.restarts says shown root before from deed after to))
@@ -288,8 +291,9 @@ module _ {S E C F D : Type 0} (views : SystemViews S E C F D (Unit {0}) Bytes) {
     Goes before olds after news = (from : List Stand)
         → AllZip (IsAt views services.restarts shown) olds from
         → (to : List Stand) × AllZip (IsAt views services.restarts shown) news to
-        × (deeds : List (ℕ × Deed C F D)) × FoldsTo (IsTurn views allows refuses services.restarts says
-        shown services.all.now) (before, from) deeds (after, to)
+        × (deeds : List (ℕ × Deed C F D))
+        × FoldsTo (IsTurn views allows refuses services.restarts says shown services.all.now)
+        (before, from) deeds (after, to)
 
     -- this came of all; or there was no memory for it, and nothing was done
     abbrev pub IsAllKept : S × PoolView C → Result (List Kept) Error → S × PoolView C → Type 0

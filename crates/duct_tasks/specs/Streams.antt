@@ -122,8 +122,8 @@ module _ {F : Type 0} (Step : F → Side × List ℕ → F → Type 0) where
     pub output : AreLines out (texts_of side.Out lines)
     pub error : AreLines err (texts_of side.Err lines)
 
-  -- what was handed on of a stream: whole lines, which are so many bytes, and no more than a part of
-  -- a line is left
+  -- what was handed on of a stream: whole lines, which are so many bytes, and no more than a part
+  -- of a line is left
   pub record Told (stream : Side) (handed : List (Side × List ℕ)) (bytes : List ℕ) (told : ℕ)
       : Type 0 where
     pub lines : List (List ℕ)

@@ -55,8 +55,8 @@ struct Attended<S: System> {
     commands: Vec<CommandStatus>,
 }
 
-/// Opens a pipe for what an expression writes to stderr. Returns the expression that writes into it,
-/// and a reader of the pipe. Its failure is no error unless it is checked.
+/// Opens a pipe for what an expression writes to stderr. Returns the expression that writes into
+/// it, and a reader of the pipe. Its failure is no error unless it is checked.
 pub(crate) fn piped<H: Hook, S: System>(
     sys: &mut S,
     expression: &Expression<S::End, H>,
@@ -96,9 +96,9 @@ impl<S: System> Attended<S>
 where
     S::Reader: Send + 'static,
 {
-    // Reads the streams to EOF, but not beyond the moment, and polls until the expression has ended.
-    // Returns how, or `None` where it is late, or a stream is, or where the lines can't be handed
-    // on. The commands get their statuses as they are then.
+    // Reads the streams to EOF, but not beyond the moment, and polls until the expression has
+    // ended. Returns how, or `None` where it is late, or a stream is, or where the lines can't be
+    // handed on. The commands get their statuses as they are then.
     fn wait<C: Clock, F: FnMut(Side, &[u8]) -> io::Result<()>>(
         &mut self,
         rt: &(impl Threads + Wait),
@@ -133,7 +133,8 @@ where
             return None;
         }
         let is_late = ||
-            ensures over { result ≡ true → HasReached (C.may_show clock.entry.now) (as_nanos moment) }
+            ensures over { result ≡ true
+                → HasReached (C.may_show clock.entry.now) (as_nanos moment) }
             ensures early { result ≡ false
                 → HasShownLess (C.may_show clock.entry.now) (as_nanos moment) }
         { is_over(clock, moment) };
@@ -236,18 +237,18 @@ where
 
 /// Runs the expression as `run_until` does, and hands on each line that it writes to stdout or to
 /// stderr once it is read, with its stream and without its `\n` or `\r\n`. The lines of one stream
-/// come in their order; between those of both the order is that in which they are found. A last line
-/// without a newline comes at EOF. Returns all bytes of both streams with the status, also where
-/// that is no success, and each command with its own status. A stream that is redirected inside has
-/// nothing in it.
+/// come in their order; between those of both the order is that in which they are found. A last
+/// line without a newline comes at EOF. Returns all bytes of both streams with the status, also
+/// where that is no success, and each command with its own status. A stream that is redirected
+/// inside has nothing in it.
 ///
 /// Each stream has a pipe, which is read on threads, one block ahead: a command that finds its pipe
 /// full waits for the closure. The call ends at EOF of both, once no process may write to them.
 ///
-/// At the moment the expression is stopped as by `run_until`, and its streams are read on until EOF,
-/// but no more than a second longer than the grace. `Until::Late` has the bytes that came until
-/// then, whose whole lines were all handed on; and the commands, with the statuses that they had at
-/// the moment: those without one hung.
+/// At the moment the expression is stopped as by `run_until`, and its streams are read on until
+/// EOF, but no more than a second longer than the grace. `Until::Late` has the bytes that came
+/// until then, whose whole lines were all handed on; and the commands, with the statuses that they
+/// had at the moment: those without one hung.
 ///
 /// Fails at once with an error of the closure, and with that of a read. Then each command that is
 /// not known to have ended is sent signal 15 and killed, groups of commands that lead one as by

@@ -45,7 +45,8 @@ impl fmt::Display for FailedRun {
     }
 }
 
-// Writes each command that failed, with a lead before the first one and a newline before the others.
+// Writes each command that failed, with a lead before the first one and a newline before the
+// others.
 fn write_failed<W: fmt::Write>(
     lead: &str,
     commands: &[CommandStatus],

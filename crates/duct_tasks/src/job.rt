@@ -161,6 +161,7 @@ where
         ensures asked { WasAsked self.new.step }
     {
         if let Step::Runs = self.step {
+            let _ended = ended(&mut self.running); // what has ended keeps its status
             let _ = order_all(
                 rt,
                 sys,
@@ -236,8 +237,8 @@ where
         }
     }
 
-    // Polls what was given no order, and asks it to end where it is late. Returns whether it goes
-    // on.
+    // Polls what was given no order, once its streams are read, and asks it to end where it is
+    // late. Returns whether it goes on.
     fn run_on<H: Hook, C: Clock>(
         &mut self,
         rt: &impl Wait,
@@ -256,12 +257,11 @@ where
             sys.old sys.new pool.old.given pool.new.given }
         ensures over { result ≡ false → IsStopped self.new.step }
     {
-        let ended = ended(&mut self.running);
         if self.streams.go_on() {
             self.ask_if_late(rt, sys, pool, tasks, like);
             return true;
         }
-        match ended {
+        match ended(&mut self.running) {
             Some(end) => {
                 note(&mut self.commands, self.running.reports());
                 self.step = Step::Over(end);

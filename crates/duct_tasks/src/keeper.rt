@@ -28,8 +28,8 @@ pub struct Restarts {
     /// How long to pause at most.
     pub greatest: Duration,
     /// How long it has to run until it ends, so that starts and pauses count anew: the next start
-    /// then comes without a pause. If this is zero it is so after each end, and only a start that is
-    /// refused is followed by a pause and counts towards `most`.
+    /// then comes without a pause. If this is zero it is so after each end, and only a start that
+    /// is refused is followed by a pause and counts towards `most`.
     pub healthy: Duration,
     /// How long it may run on after signal 15, where it is stopped, before it is killed.
     pub grace: Duration,
@@ -80,16 +80,17 @@ pub struct Kept {
 }
 
 /// Starts each expression as `Expression::launch` does, polls it as `Expression::run` does until it
-/// has ended, and then, after a pause, starts it again, whether it succeeded or failed. A start that
-/// is refused is tried again in the same way. It never starts one while a command of it may still
-/// run, nor more often than `restarts.most` times before a run that lasts for `restarts.healthy`.
+/// has ended, and then, after a pause, starts it again, whether it succeeded or failed. A start
+/// that is refused is tried again in the same way. It never starts one while a command of it may
+/// still run, nor more often than `restarts.most` times before a run that lasts for
+/// `restarts.healthy`.
 ///
 /// All take turns in one loop. Each round asks `stop` whether to stop, until it says yes. From then
 /// on none is started, and those that run are sent signal 15; what is not known to have ended after
 /// the grace is killed, and so is what is left of a group that ended in it, groups of commands that
 /// lead one as in `run_until`. Nothing waits for what was killed. Between two rounds of turns in
-/// which nothing came the call pauses as `Expression::run` does. It blocks until none runs, and none
-/// is to be started again.
+/// which nothing came the call pauses as `Expression::run` does. It blocks until none runs, and
+/// none is to be started again.
 ///
 /// `tell` is called with the place of a service where it is started or that is refused, and where it
 /// ends. A kill is not told.
@@ -163,7 +164,7 @@ fn work<H: Hook, S: System, C: Clock, F: Fn() -> bool, T: FnMut(usize, Turn<'_>)
     for _ in rt.forever() {
         stops = is_to_stop(stop, stops);
         if turn_all(rt, sys, pool, services, kept, stops, tell) {
-            pauses = Pause::new();
+            pauses.restart();
         }
         if are_over(kept) {
             return;

@@ -145,7 +145,7 @@ where
         }
         crew.stop_after_failure(rt, sys, pool);
         if crew.turn_all(rt, sys, pool, tell) {
-            pauses = Pause::new();
+            pauses.restart();
         }
         pauses.rest(rt);
     }

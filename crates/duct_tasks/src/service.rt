@@ -148,7 +148,8 @@ impl<R> Service<R> {
 }
 
 impl<S: System> Service<Running<S>> {
-    // Starts it once this moment has come, unless it is to stop or was started as often as it may be.
+    // Starts it once this moment has come, unless it is to stop or was started as often as it may
+    // be.
     fn start<H: Hook, C: Clock>(
         &mut self,
         sys: &mut S,
@@ -195,8 +196,8 @@ impl<S: System> Service<Running<S>> {
         }
     }
 
-    // What runs of it has ended like this, or was killed. Its children are given to the pool, unless
-    // it succeeded.
+    // What runs of it has ended like this, or was killed. Its children are given to the pool,
+    // unless it succeeded.
     fn end(
         &mut self,
         pool: &mut Pool<S::Child>,

@@ -40,8 +40,8 @@ pub(crate) fn ended<S: System>(running: &mut Running<S>) -> Option<Result<Arc<Ou
     }
 }
 
-/// Returns whether a poll that returned this ends a wait, which an allocation failure does unless it
-/// is patient.
+/// Returns whether a poll that returned this ends a wait, which an allocation failure does unless
+/// it is patient.
 pub(crate) fn is_final(end: &Option<Result<Arc<Output>, Error>>, is_patient: bool) -> bool
     ensures some { result ≡ true → IsSome end.now }
     ensures memory { result ≡ true → is_patient ≡ true

@@ -1,5 +1,5 @@
-//! Expressions of which only so many run at once, and some that are started again each time that they
-//! end.
+//! Expressions of which only so many run at once, and some that are started again each time that
+//! they end.
 use crate::texts::{push_error, push_finished, push_polled};
 use duct::{Clock, Pool, System};
 use duct_tasks::{AtFailure, Kept, Restarts, Services, Tasks, keep, run_all};
@@ -19,8 +19,8 @@ fn at_failure(name: &str) -> Result<AtFailure, TableError> {
     }
 }
 
-/// Runs expressions as tasks. The text has how many run at once, what becomes of the others once one
-/// has failed, and the grace and the limit of each, if there are any. Adds what came of each.
+/// Runs expressions as tasks. The text has how many run at once, what becomes of the others once
+/// one has failed, and the grace and the limit of each, if there are any. Adds what came of each.
 pub fn run_tasks<S: System, C: Clock>(
     rt: &(impl Threads + Wait),
     clock: &C,

@@ -127,9 +127,9 @@ fn captured_nap<E: Drop>(alloc: Global, round: u32) -> Result<Expression<E>, Err
     both.stdout_capture()?.unchecked()
 }
 
-/// Checks eight threads that poll, wait with and without deadlines, give orders and get ids, in many
-/// rounds that end at different moments, by themselves or by an order. All threads get the same
-/// results, and nothing is left.
+/// Checks eight threads that poll, wait with and without deadlines, give orders and get ids, in
+/// many rounds that end at different moments, by themselves or by an order. All threads get the
+/// same results, and nothing is left.
 #[test]
 fn eight_threads_are_told_the_same(rt: HostRuntime) -> Result<(), Fail> {
     let before = count_left(&rt)?;

@@ -1,6 +1,7 @@
 //! The program `trace`: what `host` requests of the system for its words. `trace plan` prints it
 //! before anything runs, `trace record` writes it to a file while it runs, `trace judge` says
-//! whether such a file is that of these words, and `trace replay` does the same again from the file.
+//! whether such a file is that of these words, and `trace replay` does the same again from the
+//! file.
 #![tactic(auto)]
 
 mod commands;

@@ -1,8 +1,8 @@
 use Rattle.std.proofs.Common.{◌≡◌, Err, Some, arith, inr, refl, subst, sym, ◌∙◌}
 use Rattle.duct_tasks.proofs.Common.{RunningView, views_of}
-use Rattle.duct_tasks.proofs.Serving.{left_at, rested, rests_at, started_at, started_none, stands_after}
+use Rattle.duct_tasks.proofs.Serving.{left_at, may_start, rests_at, started_at, started_none, stands_after}
 use Rattle.duct_tasks.proofs.Signalled.{no_orders}
-use Rattle.duct_tasks.specs.Services.{IsAt, MayStart, after_start, known, rests_if}
+use Rattle.duct_tasks.specs.Services.{IsAt, after_start, known, rests_if}
 use Rattle.duct_tasks.specs.Services.Deed.{leaves, refused, starts}
 use Rattle.duct_tasks.specs.Services.Phase.{over, runs}
 use Rattle.duct_tasks.specs.declared.keeper.Why.TheVariants.{GaveUp, Stopped}
@@ -64,15 +64,9 @@ returns-in-Ok g c =
     let running = c.in-Ok.running in
     let launched = c.in-Ok.ensures.launched in
     λ from is.
-    let rest = rests_at views restarts shows old from c.args.from c.requires is in
-    let may : MayStart restarts (λ said. c.args.stops ≡ said) shows from = record {
-      idle = rest.0;
-      few = omega (arith, c.if-restarts-self.false, is.row);
-      asked = c.if-stops.false;
-      rested = rested views restarts shows old from c.args.from c.now-began.result is
-          c.now-began.ensures
-          (omega (arith, c.if-as_nanos.false, c.as_nanos.ensures, c.as_nanos-2.ensures)) rest.1;
-    } in
+    let may = may_start views restarts shows c.args.stops old from c.args.from c.now-began.result
+    c.requires is c.if-restarts-self.false c.if-stops.false c.now-began.ensures
+    (omega (arith, c.if-as_nanos.false, c.as_nanos.ensures, c.as_nanos-2.ensures)) in
     let count = c.saturating_add-self.ensures in
     let to = after_start from from.last (runs (known views running)) in (
       to,
@@ -95,15 +89,9 @@ returns-in-Err g c =
     let after = c.given.ensures in
     let last = Some (Err c.in-Err.error) in
     λ from is.
-    let rest = rests_at views restarts shows old from c.args.from c.requires is in
-    let may : MayStart restarts (λ said. c.args.stops ≡ said) shows from = record {
-      idle = rest.0;
-      few = omega (arith, c.if-restarts-self.false, is.row);
-      asked = c.if-stops.false;
-      rested = rested views restarts shows old from c.args.from c.now-began.result is
-          c.now-began.ensures
-          (omega (arith, c.if-as_nanos.false, c.as_nanos.ensures, c.as_nanos-2.ensures)) rest.1;
-    } in
+    let may = may_start views restarts shows c.args.stops old from c.args.from c.now-began.result
+    c.requires is c.if-restarts-self.false c.if-stops.false c.now-began.ensures
+    (omega (arith, c.if-as_nanos.false, c.as_nanos.ensures, c.as_nanos-2.ensures)) in
     let count = c.saturating_add-self.ensures in
     let to = after_start from last (rests_if none) in (
       to,

@@ -1,9 +1,8 @@
-use Rattle.std.proofs.Common.{None, Option, Some, ap, false, inl, inr, pos, refl, subst, sym, ◌∙◌}
+use Rattle.std.proofs.Common.{None, Option, Some, ap, false, inl, inr, pos, refl, subst, sym}
 use Rattle.std.specs.declared.time.Duration.{Duration}
 use Rattle.duct_tasks.proofs.Common.{RunningView, Signal, views_of}
 use Rattle.duct_tasks.proofs.Jobs.{signalled_by}
-use Rattle.duct_tasks.proofs.Serving.{goes_to, halts_of, known_ordered, known_polled, left_at, live_polled, runs_at, unordered_polled}
-use Rattle.duct_tasks.proofs.Signalled.{orders_left}
+use Rattle.duct_tasks.proofs.Serving.{goes_to, halts_of, known_ordered, left_at, live_polled, runs_at, unordered_polled}
 use Rattle.duct_tasks.specs.Services.{IsAt, IsLiveAt, Known, after_end, known}
 use Rattle.duct_tasks.specs.Services.Deed.{asks, ends, halts}
 use Rattle.duct_tasks.specs.Services.Phase.{asked, over}
@@ -37,10 +36,9 @@ returns-then-not-has_lapsed g c =
     let at = runs_at views restarts shows old from live (Some c.in-Some.last) c.in-Runs.is c.in-Some.is
     is in (
       from,
-      goes_to views restarts shows old from later from.phase is
-          (subst (λ (a : Option Duration). IsLiveAt views restarts shows a later from.phase)
-          (sym c.in-Some.is) (live_polled views restarts shows live polled c.in-Some.last from.phase
-          poll.stays poll.polls at)),
+      goes_to views restarts shows old from later from.phase (Some c.in-Some.last) is c.in-Some.is
+          (live_polled views restarts shows live polled c.in-Some.last from.phase poll.stays
+          poll.polls at),
       inl (refl, refl),
     )
 
@@ -94,13 +92,9 @@ returns-in-Some-ended g c =
     let later = record live { running = polled } in
     let poll = c.in-Some-ended.ensures in
     λ from is.
-    let at = unordered_polled views restarts shows live later from.phase
-    (known_polled views live.running polled poll.stays poll.polls)
-    (orders_left views false live.running polled poll.polls) refl
-    (runs_at views restarts shows old from live None c.in-Runs.is c.in_default.is is) in
-    let mid = goes_to views restarts shows old from later from.phase is
-    (subst (λ (a : Option Duration). IsLiveAt views restarts shows a later from.phase)
-    (sym c.in_default.is) at) in
+    let at = unordered_polled views restarts shows old from live polled c.in-Runs.is
+    c.in_default.is poll.stays poll.polls is in
+    let mid = goes_to views restarts shows old from later from.phase None is c.in_default.is at in
     let ended = c.end_by_itself.ensures.stands from at.2 mid in (
       after_end from c.in-Some-ended.end ended.0,
       ended.2,
@@ -133,17 +127,16 @@ returns-then-stops g c =
     let given = order.ordered in
     let sent = given.1.sent in
     λ from is.
-    let at = unordered_polled views restarts shows live later from.phase
-    (known_polled views live.running polled poll.stays poll.polls)
-    (orders_left views false live.running polled poll.polls) refl
-    (runs_at views restarts shows old from live None c.in-Runs.is c.in_default.is is) in
+    let at = unordered_polled views restarts shows old from live polled c.in-Runs.is
+    c.in_default.is poll.stays poll.polls is in
     let signalled = signalled_by views g.H.Hook.allows g.H.Hook.refuses given.0
     (c.args.sys.now, c.args.pool.now) (ordered.sys, ordered.pool) polled ordered.running _ given.1
     order.alike at.1 in
     let phase = asked (known views polled) given.0 in (
       record from { phase = phase },
       goes_to views restarts shows old from
-          (record live { running = ordered.running; asked = Some c.saturating_add.result }) phase is (
+          (record live { running = ordered.running; asked = Some c.saturating_add.result }) phase
+          (Some c.saturating_add.result) is refl (
             given.0,
             ap (λ (k : Known). asked k given.0)
                 (sym (known_ordered views (Signal (pos 15)) polled ordered.running sent.givens
@@ -169,13 +162,9 @@ returns-else-stops g c =
     let later = record live { running = polled } in
     let poll = c.ended-ended.ensures in
     λ from is.
-    let at = unordered_polled views restarts shows live later from.phase
-    (known_polled views live.running polled poll.stays poll.polls)
-    (orders_left views false live.running polled poll.polls) refl
-    (runs_at views restarts shows old from live None c.in-Runs.is c.in_default.is is) in (
+    let at = unordered_polled views restarts shows old from live polled c.in-Runs.is
+    c.in_default.is poll.stays poll.polls is in (
       from,
-      goes_to views restarts shows old from later from.phase is
-          (subst (λ (a : Option Duration). IsLiveAt views restarts shows a later from.phase)
-          (sym c.in_default.is) at),
+      goes_to views restarts shows old from later from.phase None is c.in_default.is at,
       inl (refl, refl),
     )
