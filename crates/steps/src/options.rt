@@ -1,5 +1,5 @@
 //! The words of the program.
-use clap::{Arg, ArgAction, ArgMatches, Command, value_parser};
+use clap::{Command, Error, arg, value_parser};
 use std::alloc::{AllocError, Global};
 use std::time::Duration;
 
@@ -26,103 +26,51 @@ pub struct Options<'a> {
     pub replay: Option<&'a str>,
 }
 
-/// Returns the words that the program takes.
-pub fn command<'a>(alloc: Global) -> Result<Command<'a>, AllocError> {
-    let command = Command::new(alloc, "steps").no_binary_name(true).about(
-        "Runs the steps of a file, of lines `name: command line`, up to the first failure.",
-    );
-    let command = with_limits(alloc, command)?;
-    with_recordings(alloc, command)
-}
-
-// Adds the file, and what says which steps run and how.
-fn with_limits<'a>(alloc: Global, command: Command<'a>) -> Result<Command<'a>, AllocError> {
-    command
-        .arg(valued(alloc, "FILE", "The file of steps").required(true))?
-        .arg(
-            valued(alloc, "N", "How many run at once at most")
-                .short('j')
-                .long("jobs")
-                .value_parser(value_parser!(usize).range(1..))
-                .default_value("1"),
-        )?
-        .arg(
-            valued(alloc, "SECONDS", "How long each may run")
-                .long("limit")
-                .value_parser(value_parser!(u64).range(1..)),
-        )?
-        .arg(
-            valued(alloc, "NAME", "Only the step of this name; may be repeated")
-                .long("only")
-                .action(ArgAction::Append),
-        )?
-        .arg(
-            valued(
-                alloc,
-                "WORDS",
-                "Words before those of each command, as `srun -n1`",
-            )
-            .long("over")
-            .default_value(""),
-        )
-}
-
-// Adds what says whether something runs, and what is kept of it.
-fn with_recordings<'a>(alloc: Global, command: Command<'a>) -> Result<Command<'a>, AllocError> {
-    command
-        .arg(flag(alloc, "dry-run", "Print a script for sh, and run nothing"))?
-        .arg(flag(alloc, "progress", "Show on stderr how many have ended"))?
-        .arg(
-            valued(
-                alloc,
-                "FOLDER",
-                "Keep a recording of each step that fails in this folder",
-            )
-            .long("record")
-            .conflicts_with("dry-run")?,
-        )?
-        .arg(
-            valued(
-                alloc,
-                "RECORDING",
-                "Run a step again from its recording, with no process",
-            )
-            .long("replay")
-            .conflicts_with("dry-run")?
-            .conflicts_with("FOLDER")?,
-        )
-}
-
-// Returns an argument that takes a value.
-fn valued<'a>(alloc: Global, id: &'a str, help: &'a str) -> Arg<'a> {
-    Arg::new(alloc, id).action(ArgAction::Set).help(help)
-}
-
-// Returns an argument that takes none.
-fn flag<'a>(alloc: Global, id: &'a str, help: &'a str) -> Arg<'a> {
-    Arg::new(alloc, id)
-        .action(ArgAction::SetTrue)
-        .long(id)
-        .help(help)
-}
-
-/// Returns what these words ask for.
-pub fn asked<'a>(alloc: Global, matches: &ArgMatches<'a>) -> Result<Options<'a>, AllocError> {
-    let mut only = Vec::new(alloc);
-    if let Some(names) = matches.get_strs("NAME") {
-        for name in names {
-            only.push(*name)?;
-        }
-    }
+/// Returns what the words ask for. Fails where they are wrong or ask for help, and where memory runs
+/// out.
+pub fn options_of<'a>(alloc: Global, words: &'a [String]) -> Result<Options<'a>, Error> {
+    let matches = command(alloc)?.try_get_matches_from(words)?;
     Ok(Options {
         file: matches.get_str("FILE").unwrap_or(""),
-        jobs: matches.get_one::<usize>("N").unwrap_or(1),
-        limit: matches.get_one::<u64>("SECONDS").map(Duration::from_secs),
-        only,
-        over: matches.get_str("WORDS").unwrap_or(""),
+        jobs: matches.get_one("jobs").unwrap_or(1),
+        limit: matches.get_one("limit").map(Duration::from_secs),
+        only: Vec::from_slice(alloc, matches.get_strs("only").unwrap_or(&[]))?,
+        over: matches.get_str("over").unwrap_or(""),
         is_dry: matches.get_flag("dry-run"),
         shows_progress: matches.get_flag("progress"),
-        record: matches.get_str("FOLDER"),
-        replay: matches.get_str("RECORDING"),
+        record: matches.get_str("record"),
+        replay: matches.get_str("replay"),
     })
+}
+
+// Returns the words that the program takes.
+fn command<'a>(alloc: Global) -> Result<Command<'a>, AllocError> {
+    let about = "Runs the steps of a file, of lines `name: command line`, up to the first failure.";
+    let jobs = arg!(in alloc; -j --jobs <N> "How many run at once at most").default_value("1");
+    let limit = arg!(in alloc; --limit <SECONDS> "How long each may run");
+    let (kept, again) = (
+        "Keep a recording of each step that fails in this folder",
+        "Run a step again from its recording, with no process",
+    );
+    Command::new(alloc, "steps")
+        .no_binary_name(true)
+        .about(about)
+        .arg(arg!(in alloc; <FILE> "The file of steps"))?
+        .arg(jobs.value_parser(value_parser!(usize).range(1..)))?
+        .arg(limit.value_parser(value_parser!(u64).range(1..)))?
+        .arg(arg!(in alloc; --only <NAME> ... "Only the step of this name; may be repeated"))?
+        .arg(arg!(in alloc; --over <WORDS> "Words before those of each command, as `srun -n1`"))?
+        .arg(arg!(in alloc; --"dry-run" "Print a script for sh, and run nothing"))?
+        .arg(arg!(in alloc; --progress "Show on stderr how many have ended"))?
+        .arg(
+            arg!(in alloc; --record <FOLDER>)
+                .help(kept)
+                .conflicts_with("dry-run")?,
+        )?
+        .arg(
+            arg!(in alloc; --replay <RECORDING>)
+                .help(again)
+                .conflicts_with("dry-run")?
+                .conflicts_with("record")?,
+        )
 }

@@ -1,39 +1,27 @@
 //! A line on stderr that says how many steps have ended.
-use duct_shell::Progress;
+use duct_tasks::Progress;
 use std::io::Write;
 
-/// How many steps there are, run and have ended, and where that is shown. A write that fails is
+/// How many steps there are, run and have ended, and whether that is shown. A write that fails is
 /// nothing.
-#[derive(Drop)]
-pub struct ProgressLine<'e, E> {
-    err: &'e mut E,
-    is_shown: bool,
-    all: usize,
-    run: usize,
-    ended: usize,
+#[derive(Clone, Copy)]
+pub struct ProgressLine {
+    pub is_shown: bool,
+    pub all: usize,
+    pub run: usize,
+    pub ended: usize,
 }
 
-impl<'e, E: Write> ProgressLine<'e, E> {
-    /// Returns the line of so many steps, before one is started.
-    pub fn new(err: &'e mut E, is_shown: bool, all: usize) -> Self {
-        ProgressLine {
-            err,
-            is_shown,
-            all,
-            run: 0,
-            ended: 0,
-        }
-    }
-
+impl ProgressLine {
     /// Takes the line away, so that another one may be written.
-    pub fn erase(&mut self) {
+    pub fn erase<E: Write>(&self, err: &mut E) {
         if self.is_shown {
-            let _ = self.err.write_all(b"\r\x1b[K");
+            let _ = err.write_all(b"\r\x1b[K");
         }
     }
 
     /// Shows the line after this.
-    pub fn tell(&mut self, told: &Progress<'_>) {
+    pub fn tell<E: Write>(&mut self, told: &Progress<'_>, err: &mut E) {
         match told {
             Progress::Line(_, _) => {}
             Progress::Started(_) => self.run = self.run.saturating_add(1),
@@ -43,9 +31,9 @@ impl<'e, E: Write> ProgressLine<'e, E> {
                 self.ended = self.ended.saturating_add(1);
             }
         }
-        let (all, run, ended) = (self.all, self.run, self.ended);
         if self.is_shown {
-            let _ = write!(self.err, "{ended} of {all} ended, {run} run");
+            let (all, run, ended) = (self.all, self.run, self.ended);
+            let _ = write!(err, "{ended} of {all} ended, {run} run");
         }
     }
 }

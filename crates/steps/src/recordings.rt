@@ -1,8 +1,8 @@
 //! The recording of one step, from the journal of all.
 use duct::Entry;
 use duct_replay::Recording;
-use duct_shell::Finished;
 use duct_system::copy::copies_of_entries;
+use duct_tasks::Finished;
 use std::alloc::{AllocError, Global};
 use std::sync::Arc;
 
@@ -43,38 +43,26 @@ pub fn recording_of(
     let count = own.len().saturating_sub(from_start(own, 1).len());
     let own = own.get(..count).unwrap_or(&[]);
     let mut recording = Recording::new(alloc, copies_of_entries(alloc, own)?);
-    add_endings(&mut recording, own, finished)?;
-    add_outputs(alloc, &mut recording, own, finished)?;
+    add_ends(alloc, &mut recording, own, finished)?;
     Ok(recording)
 }
 
-// Adds how the commands of a step ended, whose children are the first of its entries.
-fn add_endings(
-    recording: &mut Recording,
-    own: &[Entry],
-    finished: &Finished,
-) -> Result<(), AllocError> {
-    let mut commands = finished.commands.iter();
-    for entry in own {
-        if let Entry::Spawn(_, _, Ok(child)) = entry
-            && let Some(status) = commands.next().and_then(|command| command.status)
-        {
-            recording.ends_with(*child, status)?;
-        }
-    }
-    Ok(())
-}
-
-// Adds what a step wrote: its stderr has the first reader of its entries, and its stdout the next.
-fn add_outputs(
+// Adds how the commands of a step ended, whose children are the first of its entries, and what it
+// wrote: its stderr has the first reader of its entries, and its stdout the next.
+fn add_ends(
     alloc: Global,
     recording: &mut Recording,
     own: &[Entry],
     finished: &Finished,
 ) -> Result<(), AllocError> {
     let outputs = [&finished.stderr, &finished.stdout];
-    let mut outputs = outputs.iter();
+    let (mut commands, mut outputs) = (finished.commands.iter(), outputs.iter());
     for entry in own {
+        if let Entry::Spawn(_, _, Ok(child)) = entry
+            && let Some(status) = commands.next().and_then(|command| command.status)
+        {
+            recording.ends_with(*child, status)?;
+        }
         if let Entry::Reader(end) = entry
             && let Some(bytes) = outputs.next()
         {

@@ -1,54 +1,96 @@
 //! Steps, of lines `name: command line`: so many run at once, up to the first failure.
-use crate::error::{LineFault, StepsError};
+use crate::error::StepsError;
 use crate::words::{behind, named};
-use duct::HookBox;
-use duct_shell::{AtFailure, Expression, Finished, TaskEnd, Tasks, last_lines};
-use duct_words::parse;
-use std::alloc::Global;
+use duct::Expression;
+use duct_program::{NoHook, Usage};
+use duct_tasks::{AtFailure, Finished, TaskEnd, Tasks, last_lines};
+use duct_words::{LineError, SplitError};
+use std::alloc::{AllocError, Global};
 use std::io::{self, Write};
 use std::time::Duration;
 
 /// The names of steps, and what each runs.
 #[derive(Drop)]
-pub struct Steps<E> {
-    pub names: Vec<String>,
-    pub commands: Vec<Expression<E>>,
+pub struct Steps<'t, E> {
+    pub names: Vec<&'t str>,
+    pub commands: Vec<Expression<E, NoHook>>,
+    /// The names of all lines, also of those that were not asked for.
+    known: Vec<&'t str>,
 }
 
 /// Reads lines `name: command line`, but for empty ones and those that begin with `#`. These words
-/// stand before those of each command. Fails at the first line that is no step.
-pub fn read_steps<E: Drop>(alloc: Global, text: &str, words: &str) -> Result<Steps<E>, StepsError> {
-    let (names, commands) = (Vec::new(alloc), Vec::new(alloc));
-    let mut steps = Steps { names, commands };
+/// stand before those of each command. Returns the steps that have one of these names, or all where
+/// there are no names. Fails at the first line that is no step, and where a name or all steps are
+/// missing.
+pub fn read_steps<'t, E: Drop>(
+    alloc: Global,
+    text: &'t str,
+    words: &str,
+    only: &[&str],
+) -> Result<Steps<'t, E>, StepsError> {
+    let mut steps = Steps {
+        names: Vec::new(alloc),
+        commands: Vec::new(alloc),
+        known: Vec::new(alloc),
+    };
     for (place, line) in text.lines().enumerate() {
         if !line.is_empty() && !line.starts_with('#') {
-            let added = steps.add(alloc, line, words);
-            added.map_err(|fault| StepsError::at(place, fault))?;
+            steps.add(alloc, place.saturating_add(1), line, words, only)?;
         }
+    }
+    if !only.iter().all(|name| steps.known.contains(name)) {
+        return Err(StepsError::NoSuchStep);
+    }
+    if steps.names.is_empty() {
+        return Err(StepsError::NoSteps);
     }
     Ok(steps)
 }
 
-impl<E: Drop> Steps<E> {
-    // Adds the step of a line.
-    fn add(&mut self, alloc: Global, line: &str, words: &str) -> Result<(), LineFault> {
-        let (name, command) = named(line)?;
-        if self.names.iter().any(|known| known.as_str() == name) {
-            return Err(LineFault::Twice);
+impl<'t, E: Drop> Steps<'t, E> {
+    // Adds the step of the line with this number and text.
+    fn add(
+        &mut self,
+        alloc: Global,
+        line: usize,
+        text: &'t str,
+        words: &str,
+        only: &[&str],
+    ) -> Result<(), StepsError> {
+        let Some((name, command)) = named(text) else {
+            return Err(StepsError::NoName { line });
+        };
+        if self.known.contains(&name) {
+            return Err(StepsError::Twice { line });
         }
-        let command = behind(alloc, words, command)?;
-        self.commands.push(parse(alloc, command.as_str())?)?;
-        Ok(self.names.push(String::from_str(alloc, name)?)?)
+        let command = match behind(alloc, words, command) {
+            Ok(command) => command,
+            Err(LineError::Split(SplitError::Memory) | LineError::Usage(Usage::Memory)) => {
+                return Err(StepsError::Memory(AllocError));
+            }
+            Err(error) => return Err(StepsError::Command { line, error }),
+        };
+        self.known.push(name)?;
+        if only.is_empty() || only.contains(&name) {
+            self.commands.push(command)?;
+            self.names.push(name)?;
+        }
+        Ok(())
     }
 
-    /// Returns the steps as tasks, one at once and with no limit. Once one has failed, no other is
+    /// Returns the steps as tasks, of which so many run at once. Once one has failed, no other is
     /// started, and those that run are ended, with the groups that their commands lead.
-    pub fn tasks<'t, C>(&'t self, clock: &'t C) -> Tasks<'t, E, HookBox, C> {
+    pub fn tasks<'s, C>(
+        &'s self,
+        clock: &'s C,
+        at_once: usize,
+        limit: Option<Duration>,
+    ) -> Tasks<'s, E, NoHook, C> {
         Tasks {
             all: &self.commands,
-            at_once: 1,
+            at_once: at_once.max(1),
             at_failure: AtFailure::Stop,
-            limit: None,
+            limit,
             grace: Duration::from_secs(1),
             clock,
         }
@@ -68,21 +110,24 @@ pub fn was_stopped(end: &Finished, limit: Option<Duration>) -> bool {
     matches!(end.end, TaskEnd::Late(_)) && limit.is_none_or(|limit| end.took < limit)
 }
 
+/// Whether one of these steps has failed.
+pub fn have_failed(ends: &[Finished]) -> bool {
+    ends.iter().any(|end| end.has_failed())
+}
+
 /// Writes how each step ended, and the last lines of stderr of each that failed.
 pub fn summarize<W: Write>(
     out: &mut W,
-    names: &[String],
+    names: &[&str],
     ends: &[Finished],
     limit: Option<Duration>,
 ) -> io::Result<()> {
     for (place, name) in names.iter().enumerate() {
         match ends.get(place) {
             None => writeln!(out, "{name}: not started")?,
-            Some(it) if was_stopped(it, limit) => writeln!(
-                out,
-                "{name}: stopped, {} s",
-                it.took.as_secs()
-            )?,
+            Some(it) if was_stopped(it, limit) => {
+                writeln!(out, "{name}: stopped, {} s", it.took.as_secs())?;
+            }
             Some(it) => writeln!(out, "{name}: {it}, {} s", it.took.as_secs())?,
         }
     }
@@ -98,9 +143,9 @@ pub fn summarize<W: Write>(
 #[cfg(test)]
 mod tests {
     use super::*;
-    use duct::{ExitStatus, Fault, Kind};
+    use duct::{ExitStatus, Fault, Kind, Pool};
     use duct_script::{PollAnswer, Script, ScriptClock, Sort};
-    use duct_shell::Shell;
+    use duct_tasks::run_all;
     use std::sync::Wait;
     use std::test::Fail;
     use std::thread::Threads;
@@ -112,19 +157,13 @@ mod tests {
         seconds: &[u64],
         limit: Option<Duration>,
     ) -> Result<String, Fail> {
-        let (alloc, mut moments, mut out) = (
-            rt.alloc(),
-            Vec::new(rt.alloc()),
-            Vec::new(rt.alloc()),
-        );
-        for second in seconds {
-            moments.push(Duration::from_secs(*second))?;
-        }
-        let (mut sh, clock) = (Shell::over(rt, alloc, system), ScriptClock::new(moments));
-        let steps = read_steps(alloc, "lint: lint\nunit: make", "")?;
-        let mut tasks = steps.tasks(&clock);
-        (tasks.at_once, tasks.limit) = (2, limit);
-        let ends = sh.run_all(tasks, |_, _| {})?;
+        let (alloc, mut system) = (rt.alloc(), system);
+        let (mut pool, mut out) = (Pool::new(alloc), Vec::new(alloc));
+        let moments = seconds.iter().map(|it| Duration::from_secs(*it));
+        let clock = ScriptClock::new(moments.collect(alloc)?);
+        let steps = read_steps(alloc, "lint: lint\nunit: make", "", &[])?;
+        let tasks = steps.tasks(&clock, 2, limit);
+        let ends = run_all(rt, alloc, &mut system, &mut pool, tasks, &mut |_, _| {})?;
         summarize(&mut out, &steps.names, &ends, limit)?;
         Ok(String::from_utf8(out)?)
     }
