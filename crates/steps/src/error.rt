@@ -1,4 +1,6 @@
 //! Why steps can't be read, or what became of them can't be told.
+ghost use Rattle.std.specs.Prelude.{◌≡◌, ◌⊎◌};
+
 use duct_replay::LineRefusal;
 use duct_words::{LineError, ShellTextError};
 use std::alloc::AllocError;
@@ -37,7 +39,7 @@ pub enum StepsError {
     #[error("a recording can't be written: {0}")]
     Unkept(io::Error),
     #[error("the output can't be written: {0}")]
-    Unwritten(io::Error),
+    Unwritten(#[from] io::Error),
     #[error("no clock: {0}")]
     Clock(io::Error),
     #[error("out of memory")]
@@ -47,7 +49,9 @@ pub enum StepsError {
 impl StepsError {
     /// Returns the exit status of the program: 2 where its words or files are wrong, 3 where memory
     /// runs out or not all could be told.
-    pub fn status(&self) -> u8 {
+    pub fn status(&self) -> u8
+        ensures { (result ≡ 2) ⊎ (result ≡ 3) }
+    {
         match self {
             StepsError::File(error) | StepsError::Unread(error) => match error.kind() {
                 ErrorKind::OutOfMemory => 3,

@@ -2,6 +2,8 @@
 //! tells what came of each.
 #![tactic(auto)]
 
+ghost use Rattle.std.specs.Prelude.{◌≤◌};
+
 mod error;
 mod options;
 mod progress;
@@ -44,7 +46,9 @@ fn main(rt: HostRuntime) -> ExitCode {
 }
 
 // Writes why the words ask for nothing, or the help that they ask for. Returns the status.
-fn refuse<R: Print + Eprint>(rt: &R, error: &Error) -> u8 {
+fn refuse<R: Print + Eprint>(rt: &R, error: &Error) -> u8
+    ensures { result ≤ 3 }
+{
     match (error.print(rt), error.kind()) {
         (Ok(()), ErrorKind::DisplayHelp) => 0,
         (Err(_), _) | (Ok(()), ErrorKind::OutOfMemory) => 3,

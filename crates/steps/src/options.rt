@@ -26,8 +26,7 @@ pub struct Options<'a> {
     pub replay: Option<&'a str>,
 }
 
-/// Returns what the words ask for. Fails where they are wrong or ask for help, and where memory runs
-/// out.
+/// Returns what the words ask for. Fails where they are wrong or ask for help, or memory runs out.
 pub fn options_of<'a>(alloc: Global, words: &'a [String]) -> Result<Options<'a>, Error> {
     let matches = command(alloc)?.try_get_matches_from(words)?;
     Ok(Options {

@@ -1,16 +1,19 @@
 //! What the program does.
+ghost use Rattle.std.specs.Prelude.{◌≡◌, ◌⊎◌, ◌≤◌, true, Ok, IfOk};
+ghost use Rattle.steps.specs.Runs.{Ran, RanWell, RunsNone};
+
 use crate::error::StepsError;
 use crate::options::Options;
 use crate::progress::ProgressLine;
 use crate::recordings::recording_of;
-use crate::steps::{Steps, have_failed, read_steps, summarize, was_stopped, write_line};
+use crate::steps::{Steps, have_failed, read_steps, run_steps, summarize, was_stopped, write_line};
 use crate::words::check_words;
-use duct::{Clock, Entry, Hook, Pool, System};
+use duct::{Clock, Entry, Hook, System};
 use duct_host::HostClock;
 use duct_program::{NoHook, Program};
 use duct_replay::{Recording, Replay, Values, private_file, read_recording, recording_text};
 use duct_system::views::Viewed;
-use duct_tasks::{Finished, Progress, run_all};
+use duct_tasks::{Finished, Progress};
 use duct_words::{quote, shell_text};
 use std::alloc::AllocError;
 use std::fs;
@@ -45,6 +48,10 @@ impl<'r, R: Threads + Wait + rt::Clock + Files + AllocGlobal, O: Write, E: Write
     pub fn run<S: System>(&mut self, system: &mut S) -> u8
     where
         S::Reader: Send + 'static,
+        ensures well { result ≡ 0 → RunsNone self.old.options ⊎ RanWell ⟦<S as Viewed>⟧.views
+            S.may_read S.Reader.remaining ⟦<NoHook as Hook>⟧.allows ⟦<NoHook as Hook>⟧.refuses
+            ⟦<HostClock<&'r R> as Clock>⟧.may_show self.old.options.limit system.old system.new }
+        ensures status { result ≤ 3 }
     {
         match self.perform(system) {
             Ok(true) => 0,
@@ -60,6 +67,9 @@ impl<'r, R: Threads + Wait + rt::Clock + Files + AllocGlobal, O: Write, E: Write
     fn perform<S: System>(&mut self, system: &mut S) -> Result<bool, StepsError>
     where
         S::Reader: Send + 'static,
+        ensures { result ≡ Ok true → RunsNone self.old.options ⊎ RanWell ⟦<S as Viewed>⟧.views
+            S.may_read S.Reader.remaining ⟦<NoHook as Hook>⟧.allows ⟦<NoHook as Hook>⟧.refuses
+            ⟦<HostClock<&'r R> as Clock>⟧.may_show self.old.options.limit system.old system.new }
     {
         let bytes = fs::read(self.rt, self.options.file).map_err(StepsError::File)?;
         let text = text_of(&bytes)?;
@@ -67,22 +77,8 @@ impl<'r, R: Threads + Wait + rt::Clock + Files + AllocGlobal, O: Write, E: Write
         match self.options.replay {
             _ if self.options.is_dry => self.write_script(text),
             Some(path) => self.replay(path, text),
-            None => self.run_steps(system, text),
+            None => self.run_over(system, text),
         }
-    }
-
-    // Writes a script that runs the steps one after the other, up to the first that fails.
-    fn write_script(&mut self, text: &str) -> Result<bool, StepsError> {
-        let (alloc, options) = (self.rt.alloc(), &self.options);
-        let steps: Steps<u64> = read_steps(alloc, text, options.over, &options.only)?;
-        let mut script = String::from_str(alloc, "set -e\n")?;
-        for (name, command) in steps.names.iter().zip(&steps.commands) {
-            let line = shell_text(alloc, command).map_err(StepsError::Script)?;
-            writeln!(script, "# {name}\n{line}")?;
-        }
-        let written = self.out.write_all(script.as_bytes());
-        written.map_err(StepsError::Unwritten)?;
-        Ok(true)
     }
 
     // Runs a step over its recording. Returns whether it ended well.
@@ -91,7 +87,7 @@ impl<'r, R: Threads + Wait + rt::Clock + Files + AllocGlobal, O: Write, E: Write
         let lines = fs::read_to_string(self.rt, path).map_err(StepsError::Unread)?;
         let recording = read_recording(alloc, lines.as_str()).map_err(StepsError::Recording)?;
         let mut replay = Replay::new(alloc, recording);
-        let well = self.run_steps(&mut replay, text)?;
+        let well = self.run_over(&mut replay, text)?;
         match replay.difference() {
             None => Ok(well),
             Some(place) => Err(StepsError::Differs(place)),
@@ -100,19 +96,21 @@ impl<'r, R: Threads + Wait + rt::Clock + Files + AllocGlobal, O: Write, E: Write
 
     // Runs the steps over a system, writes what they write and how they ended, and keeps the
     // recordings that are asked for. Returns whether all ended well.
-    fn run_steps<S: System>(&mut self, system: &mut S, text: &str) -> Result<bool, StepsError>
+    fn run_over<S: System>(&mut self, system: &mut S, text: &str) -> Result<bool, StepsError>
     where
         S::Reader: Send + 'static,
+        ensures { result ≡ Ok true → RanWell ⟦<S as Viewed>⟧.views S.may_read S.Reader.remaining
+            ⟦<NoHook as Hook>⟧.allows ⟦<NoHook as Hook>⟧.refuses
+            ⟦<HostClock<&'r R> as Clock>⟧.may_show self.old.options.limit system.old system.new }
     {
         if let Some(folder) = self.options.record {
             fs::create_dir_all(self.rt, folder).map_err(StepsError::Unkept)?;
         }
         let words = format!(in self.rt.alloc(); "setsid {}", self.options.over)?;
         let steps = read_steps(self.rt.alloc(), text, words.as_str(), &self.options.only)?;
-        let ends = self.run_all(system, &steps)?;
-        summarize(&mut self.out, &steps.names, &ends, self.options.limit).map_err(
-            StepsError::Unwritten,
-        )?;
+        let clock = HostClock::new(self.rt).map_err(StepsError::Clock)?;
+        let ends = self.tell_all(system, &steps, &clock)?;
+        summarize(&mut self.out, &steps.names, &ends, self.options.limit)?;
         if let Some(folder) = self.options.record {
             self.keep(folder, system.journal(), &steps.names, &ends)?;
         }
@@ -120,25 +118,27 @@ impl<'r, R: Threads + Wait + rt::Clock + Files + AllocGlobal, O: Write, E: Write
     }
 
     // Runs the steps, and writes what they write. Returns what came of those that were started.
-    fn run_all<S: System>(
+    fn tell_all<'s, S: System, C: Clock>(
         &mut self,
         system: &mut S,
-        steps: &Steps<'_, S::End>,
+        steps: &'s Steps<'_, S::End>,
+        clock: &'s C,
     ) -> Result<Vec<Finished>, StepsError>
     where
         S::Reader: Send + 'static,
+        ensures { IfOk result (λ ends. Ran ⟦<S as Viewed>⟧.views S.may_read S.Reader.remaining
+            ⟦<NoHook as Hook>⟧.allows ⟦<NoHook as Hook>⟧.refuses C.may_show
+            steps.now.commands.items self.old.options.limit system.old ends.items system.new) }
     {
-        let (rt, options) = (self.rt, &self.options);
-        let clock = HostClock::new(rt).map_err(StepsError::Clock)?;
-        let tasks = steps.tasks(&clock, options.jobs, options.limit);
+        let (jobs, limit) = (self.options.jobs, self.options.limit);
         let mut line = ProgressLine {
-            is_shown: options.shows_progress,
+            is_shown: self.options.shows_progress,
             all: steps.names.len(),
             run: 0,
             ended: 0,
         };
         let mut written = Ok(());
-        let mut tell = |place: usize, told: Progress<'_>| {
+        let tell = |place: usize, told: Progress<'_>| {
             line.erase(&mut self.err);
             if let (Some(name), Progress::Line(_, text)) = (steps.names.get(place), &told) {
                 let wrote = write_line(&mut self.out, name, text);
@@ -148,11 +148,25 @@ impl<'r, R: Threads + Wait + rt::Clock + Files + AllocGlobal, O: Write, E: Write
             }
             line.tell(&told, &mut self.err);
         };
-        let mut pool = Pool::new(rt.alloc());
-        let ends = run_all(rt, rt.alloc(), system, &mut pool, tasks, &mut tell);
+        let ends = run_steps(self.rt, system, steps, clock, jobs, limit, tell);
         line.erase(&mut self.err);
-        written.map_err(StepsError::Unwritten)?;
-        ends.map_err(|_| StepsError::Memory(AllocError))
+        written?;
+        ends
+    }
+}
+
+impl<R: Files + AllocGlobal, O: Write, E> Runner<'_, R, O, E> {
+    // Writes a script that runs the steps one after the other, up to the first that fails.
+    fn write_script(&mut self, text: &str) -> Result<bool, StepsError> {
+        let (alloc, options) = (self.rt.alloc(), &self.options);
+        let steps: Steps<u64> = read_steps(alloc, text, options.over, &options.only)?;
+        let mut script = String::from_str(alloc, "set -e\n")?;
+        for (name, command) in steps.names.iter().zip(&steps.commands) {
+            let line = shell_text(alloc, command).map_err(StepsError::Script)?;
+            writeln!(script, "# {name}\n{line}")?;
+        }
+        self.out.write_all(script.as_bytes())?;
+        Ok(true)
     }
 
     // Keeps the recording of each step that failed, and writes how to run it again.
@@ -169,10 +183,10 @@ impl<'r, R: Threads + Wait + rt::Clock + Files + AllocGlobal, O: Write, E: Write
                 let path = format!(in alloc; "{folder}/{name}.recording")?;
                 self.write_recording(path.as_str(), &recording_of(alloc, journal, place, end)?)?;
                 let line = self.replay_line(name, path.as_str())?;
-                writeln!(self.out, "replay: {line}").map_err(StepsError::Unwritten)?;
+                writeln!(self.out, "replay: {line}")?;
             }
         }
-        self.out.flush().map_err(StepsError::Unwritten)
+        Ok(self.out.flush()?)
     }
 
     // Writes a recording to the file at this path.
@@ -200,8 +214,7 @@ fn text_of(bytes: &[u8]) -> Result<&str, StepsError> {
     str::from_utf8(bytes).map_err(|error| {
         let before = bytes.get(..error.valid_up_to()).unwrap_or(&[]);
         let ends = before.iter().filter(|it| **it == b'\n').count();
-        StepsError::NotUtf8 {
-            line: ends.saturating_add(1),
-        }
+        let line = ends.saturating_add(1);
+        StepsError::NotUtf8 { line }
     })
 }

@@ -1,12 +1,20 @@
 //! Steps, of lines `name: command line`: so many run at once, up to the first failure.
+ghost use Rattle.std.specs.Prelude.{◌≡◌, IfOk};
+ghost use Rattle.std.specs.List.{list_any};
+ghost use Rattle.duct_tasks.specs.Tasks.{has_failed};
+ghost use Rattle.steps.specs.Runs.{Ran};
+
 use crate::error::StepsError;
 use crate::words::{behind, named};
-use duct::Expression;
+use duct::{Clock, Expression, Hook, Pool, System};
 use duct_program::{NoHook, Usage};
-use duct_tasks::{AtFailure, Finished, TaskEnd, Tasks, last_lines};
+use duct_system::views::Viewed;
+use duct_tasks::{AtFailure, Finished, Progress, TaskEnd, Tasks, last_lines, run_all};
 use duct_words::{LineError, SplitError};
 use std::alloc::{AllocError, Global};
 use std::io::{self, Write};
+use std::sync::Wait;
+use std::thread::Threads;
 use std::time::Duration;
 
 /// The names of steps, and what each runs.
@@ -77,23 +85,40 @@ impl<'t, E: Drop> Steps<'t, E> {
         }
         Ok(())
     }
+}
 
-    /// Returns the steps as tasks, of which so many run at once. Once one has failed, no other is
-    /// started, and those that run are ended, with the groups that their commands lead.
-    pub fn tasks<'s, C>(
-        &'s self,
-        clock: &'s C,
-        at_once: usize,
-        limit: Option<Duration>,
-    ) -> Tasks<'s, E, NoHook, C> {
-        Tasks {
-            all: &self.commands,
-            at_once: at_once.max(1),
-            at_failure: AtFailure::Stop,
-            limit,
-            grace: Duration::from_secs(1),
-            clock,
-        }
+/// Runs steps over a system, at most so many at once, and none for longer than the limit, if there
+/// is one. Once one has failed, no other is started, and those that run are ended, with the groups
+/// that their commands lead. Returns what came of those that were started. `tell` is called as by
+/// `run_all`.
+pub fn run_steps<'s, S: System, C: Clock, T: FnMut(usize, Progress<'_>)>(
+    rt: &(impl Threads + Wait + AllocGlobal),
+    system: &mut S,
+    steps: &'s Steps<'_, S::End>,
+    clock: &'s C,
+    at_once: usize,
+    limit: Option<Duration>,
+    mut tell: T,
+) -> Result<Vec<Finished>, StepsError>
+where
+    S::Reader: Send + 'static,
+    requires { (t : T) (place : _) (told : _) → T.pre t place told }
+    ensures { IfOk result (λ ends. Ran ⟦<S as Viewed>⟧.views S.may_read S.Reader.remaining
+        ⟦<NoHook as Hook>⟧.allows ⟦<NoHook as Hook>⟧.refuses C.may_show
+        steps.now.commands.items limit system.old ends.items system.new) }
+{
+    let tasks = Tasks {
+        all: &steps.commands,
+        at_once: at_once.max(1),
+        at_failure: AtFailure::Stop,
+        limit,
+        grace: Duration::from_secs(1),
+        clock,
+    };
+    let mut pool = Pool::new(rt.alloc());
+    match run_all(rt, rt.alloc(), system, &mut pool, tasks, &mut tell) {
+        Ok(ends) => Ok(ends),
+        Err(_) => Err(StepsError::Memory(AllocError)), // no other error comes
     }
 }
 
@@ -111,7 +136,9 @@ pub fn was_stopped(end: &Finished, limit: Option<Duration>) -> bool {
 }
 
 /// Whether one of these steps has failed.
-pub fn have_failed(ends: &[Finished]) -> bool {
+pub fn have_failed(ends: &[Finished]) -> bool
+    ensures { result ≡ list_any has_failed ends.now }
+{
     ends.iter().any(|end| end.has_failed())
 }
 
@@ -143,12 +170,9 @@ pub fn summarize<W: Write>(
 #[cfg(test)]
 mod tests {
     use super::*;
-    use duct::{ExitStatus, Fault, Kind, Pool};
+    use duct::{ExitStatus, Fault, Kind};
     use duct_script::{PollAnswer, Script, ScriptClock, Sort};
-    use duct_tasks::run_all;
-    use std::sync::Wait;
     use std::test::Fail;
-    use std::thread::Threads;
 
     // Runs two steps over a system, by a clock of these seconds. Returns the summary.
     fn told(
@@ -158,12 +182,11 @@ mod tests {
         limit: Option<Duration>,
     ) -> Result<String, Fail> {
         let (alloc, mut system) = (rt.alloc(), system);
-        let (mut pool, mut out) = (Pool::new(alloc), Vec::new(alloc));
+        let mut out = Vec::new(alloc);
         let moments = seconds.iter().map(|it| Duration::from_secs(*it));
         let clock = ScriptClock::new(moments.collect(alloc)?);
         let steps = read_steps(alloc, "lint: lint\nunit: make", "", &[])?;
-        let tasks = steps.tasks(&clock, 2, limit);
-        let ends = run_all(rt, alloc, &mut system, &mut pool, tasks, &mut |_, _| {})?;
+        let ends = run_steps(rt, &mut system, &steps, &clock, 2, limit, |_, _| {})?;
         summarize(&mut out, &steps.names, &ends, limit)?;
         Ok(String::from_utf8(out)?)
     }

@@ -1,4 +1,10 @@
 //! What a line says, and words before those of its commands.
+ghost use Rattle.std.specs.Prelude.{◌≡◌, ◌++◌, map, option_map, string_bytes, IfOk, OnOk};
+ghost use Rattle.duct.specs.TreeView.{tree_view};
+ghost use Rattle.duct_words.specs.Line.{ParsesAs};
+ghost use Rattle.duct_words.specs.Split.{token_view};
+ghost use Rattle.steps.specs.Words.{behind, has_slash, named_of, parts_of, token_text, tokens_text};
+
 use crate::error::StepsError;
 use duct::{Expression, Stream};
 use duct_program::NoHook;
@@ -7,7 +13,9 @@ use std::alloc::{AllocError, Global};
 
 /// Returns the name and the command line of a line `name: command line`, where it has a name, which
 /// has no slash.
-pub fn named(line: &str) -> Option<(&str, &str)> {
+pub fn named(line: &str) -> Option<(&str, &str)>
+    ensures { option_map (λ parts. (parts.0.now, parts.1.now)) result ≡ named_of line.now }
+{
     let (name, command) = parts_of(line)?;
     if name.is_empty() || has_slash(name) {
         return None;
@@ -16,12 +24,16 @@ pub fn named(line: &str) -> Option<(&str, &str)> {
 }
 
 // The texts before the first colon of a line and after it, if there is one.
-fn parts_of(line: &str) -> Option<(&str, &str)> {
+fn parts_of(line: &str) -> Option<(&str, &str)>
+    ensures { option_map (λ parts. (parts.0.now, parts.1.now)) result ≡ parts_of line.now }
+{
     line.split_once(':')
 }
 
 // Whether a text has a slash.
-fn has_slash(text: &str) -> bool {
+fn has_slash(text: &str) -> bool
+    ensures { result ≡ has_slash text.now }
+{
     text.bytes().any(|b| b == b'/')
 }
 
@@ -40,7 +52,9 @@ pub fn behind<E: Drop>(
     alloc: Global,
     words: &str,
     line: &str,
-) -> Result<Expression<E, NoHook>, LineError> {
+) -> Result<Expression<E, NoHook>, LineError>
+    ensures { ParsesAs tree_view result (behind words.now line.now) }
+{
     let _line: Expression<E, NoHook> = parse(alloc, line)?;
     let tokens = split(alloc, line).map_err(LineError::Split)?;
     let Ok(text) = text_of(alloc, words, &tokens) else {
@@ -50,7 +64,10 @@ pub fn behind<E: Drop>(
 }
 
 // The text of tokens, with these words before those of each command.
-fn text_of(alloc: Global, words: &str, tokens: &[Token]) -> Result<String, AllocError> {
+fn text_of(alloc: Global, words: &str, tokens: &[Token]) -> Result<String, AllocError>
+    ensures { IfOk result (λ text. string_bytes text
+        ≡ words.now ++ tokens_text words.now (map token_view tokens.now)) }
+{
     let mut text = String::from_str(alloc, words)?;
     for token in tokens {
         push_token(alloc, &mut text, words, token)?;
@@ -64,7 +81,10 @@ fn push_token(
     text: &mut String,
     words: &str,
     token: &Token,
-) -> Result<(), AllocError> {
+) -> Result<(), AllocError>
+    ensures { OnOk result (string_bytes text.new
+        ≡ string_bytes text.old ++ token_text words.now (token_view token.now)) }
+{
     match token {
         Token::Word(word) => {
             text.push(' ')?;
