@@ -1,5 +1,5 @@
 -- What was done for the steps of a file.
-use Rattle.std.specs.Prelude.{◌≡◌, ◌≢◌, ◌⊎◌, ℕ, List, true, false, None, Option}
+use Rattle.std.specs.Prelude.{◌≡◌, ◌≢◌, ◌⊎◌, ℕ, List, Bool, true, not, None, Option}
 use Rattle.std.specs.List.{list_any}
 use Rattle.std.specs.declared.time.Duration.{Duration}
 use Rattle.duct_base.specs.Pool.{PoolView}
@@ -33,9 +33,10 @@ module _ {S E C F D : Type 0} (views : SystemViews S E C F D (Unit {0}) Bytes) {
     pub ran : RanAll views may remaining allows refuses may_show tasks (before, first) ends
         (after, last)
 
-  -- some commands ran so, and none has failed: all were started, and ended well
-  pub record RanWell (limit : Option Duration) (before after : S) : Type 0 where
+  -- some commands ran so. If that went well none has failed: all were started, and ended well. Else
+  -- one has failed
+  pub record RanTo (limit : Option Duration) (well : Bool) (before after : S) : Type 0 where
     pub commands : List (Expression E H)
     pub ends : List Finished
     pub ran : Ran commands limit before ends after
-    pub well : list_any has_failed ends ≡ false
+    pub went : list_any has_failed ends ≡ not well

@@ -1,6 +1,6 @@
 //! What the program does.
-ghost use Rattle.std.specs.Prelude.{◌≡◌, ◌⊎◌, ◌≤◌, true, Ok, IfOk};
-ghost use Rattle.steps.specs.Runs.{Ran, RanWell, RunsNone};
+ghost use Rattle.std.specs.Prelude.{◌≡◌, ◌⊎◌, ◌≤◌, true, false, IfOk};
+ghost use Rattle.steps.specs.Runs.{Ran, RanTo, RunsNone};
 
 use crate::error::StepsError;
 use crate::options::Options;
@@ -48,9 +48,14 @@ impl<'r, R: Threads + Wait + rt::Clock + Files + AllocGlobal, O: Write, E: Write
     pub fn run<S: System>(&mut self, system: &mut S) -> u8
     where
         S::Reader: Send + 'static,
-        ensures well { result ≡ 0 → RunsNone self.old.options ⊎ RanWell ⟦<S as Viewed>⟧.views
+        ensures well { result ≡ 0 → RunsNone self.old.options ⊎ RanTo ⟦<S as Viewed>⟧.views
             S.may_read S.Reader.remaining ⟦<NoHook as Hook>⟧.allows ⟦<NoHook as Hook>⟧.refuses
-            ⟦<HostClock<&'r R> as Clock>⟧.may_show self.old.options.limit system.old system.new }
+            ⟦<HostClock<&'r R> as Clock>⟧.may_show self.old.options.limit true
+            system.old system.new }
+        ensures failed { result ≡ 1 → RunsNone self.old.options ⊎ RanTo ⟦<S as Viewed>⟧.views
+            S.may_read S.Reader.remaining ⟦<NoHook as Hook>⟧.allows ⟦<NoHook as Hook>⟧.refuses
+            ⟦<HostClock<&'r R> as Clock>⟧.may_show self.old.options.limit false
+            system.old system.new }
         ensures status { result ≤ 3 }
     {
         match self.perform(system) {
@@ -67,9 +72,10 @@ impl<'r, R: Threads + Wait + rt::Clock + Files + AllocGlobal, O: Write, E: Write
     fn perform<S: System>(&mut self, system: &mut S) -> Result<bool, StepsError>
     where
         S::Reader: Send + 'static,
-        ensures { result ≡ Ok true → RunsNone self.old.options ⊎ RanWell ⟦<S as Viewed>⟧.views
+        ensures { IfOk result (λ well. RunsNone self.old.options ⊎ RanTo ⟦<S as Viewed>⟧.views
             S.may_read S.Reader.remaining ⟦<NoHook as Hook>⟧.allows ⟦<NoHook as Hook>⟧.refuses
-            ⟦<HostClock<&'r R> as Clock>⟧.may_show self.old.options.limit system.old system.new }
+            ⟦<HostClock<&'r R> as Clock>⟧.may_show self.old.options.limit well
+            system.old system.new) }
     {
         let bytes = fs::read(self.rt, self.options.file).map_err(StepsError::File)?;
         let text = text_of(&bytes)?;
@@ -99,9 +105,10 @@ impl<'r, R: Threads + Wait + rt::Clock + Files + AllocGlobal, O: Write, E: Write
     fn run_over<S: System>(&mut self, system: &mut S, text: &str) -> Result<bool, StepsError>
     where
         S::Reader: Send + 'static,
-        ensures { result ≡ Ok true → RanWell ⟦<S as Viewed>⟧.views S.may_read S.Reader.remaining
+        ensures { IfOk result (λ well. RanTo ⟦<S as Viewed>⟧.views S.may_read S.Reader.remaining
             ⟦<NoHook as Hook>⟧.allows ⟦<NoHook as Hook>⟧.refuses
-            ⟦<HostClock<&'r R> as Clock>⟧.may_show self.old.options.limit system.old system.new }
+            ⟦<HostClock<&'r R> as Clock>⟧.may_show self.old.options.limit well
+            system.old system.new) }
     {
         if let Some(folder) = self.options.record {
             fs::create_dir_all(self.rt, folder).map_err(StepsError::Unkept)?;
