@@ -8,7 +8,7 @@ use Rattle.duct_tasks.proofs.Counting.{changed}
 use Rattle.duct_tasks.proofs.Ends.{failure}
 use Rattle.duct_tasks.proofs.EachAttempt.{each_step}
 use Rattle.duct_tasks.proofs.GroupLines.{folds_on}
-use Rattle.duct_tasks.specs.Tasks.{AreAtIf, AreEnds, Came, CameOf, Goes, HasCome, IsAt, IsAtMade, IsAtStep, IsDue, IsJob, IsMove, Launch, Move, OneFailed, RanAll, Refusal, Start, StartsTask, TaskGoes, failed_of, given_by, has_failed, left_by, left_of, starts_of}
+use Rattle.duct_tasks.specs.Tasks.{AreAtIf, AreEnds, Came, CameOf, Goes, HasCome, IsAt, IsAtMade, IsAtStep, IsDue, IsJob, IsMove, Launch, Move, Moves, OneFailed, ProceedsFrom, RanAll, Refusal, Start, StartsTask, TaskGoes, failed_of, given_by, has_failed, left_by, left_of, starts_of}
 use Rattle.duct_tasks.specs.Tasks.Move.{starts, signals}
 use Rattle.duct_tasks.specs.Turns.{GoesOn}
 use Rattle.duct_tasks.specs.declared.finished.Finished.{Finished}
@@ -137,6 +137,78 @@ pub due_on : (shows : Duration → Type 0) (limit : Option Duration) (from to : 
 due_on shows limit from to grows (inl past) = inl past
 due_on shows limit from to grows (inr is) = inr (grows is)
 
+module _ {S E C F D : Type 0} (views : SystemViews S E C F D (Unit {0}) Bytes) {R : Type 0}
+    (may : ℕ → R → Type 0) (remaining : R → Option (List ℕ)) {H : Type 0} (allows : Allows H)
+    (refuses : Refuses H) {K : Type 0} (may_show : K → Duration → Type 0) (tasks : Tasks E H K)
+  where
+    abbrev Went : Bool → S → List (Move E H C F D R) → S → Type 0
+    Went = Moves views may remaining allows refuses may_show tasks
+
+    abbrev WentFrom : Bool → Bool → S → List (Move E H C F D R) → S → Type 0
+    WentFrom = ProceedsFrom views may remaining allows refuses may_show tasks
+
+    -- nothing is done
+    nothing : (from to : Bool) (sys : S) → (from ≡ true → to ≡ true) → WentFrom from to sys [] sys
+    nothing false false sys grows = refl
+    nothing false true sys grows = ([], [], sys, refl, refl, refl, refl)
+    nothing true to sys grows = (refl, refl)
+
+    -- none is started
+    only_turns : (stopped : Bool) (sys : S) (moves : List (Move E H C F D R)) (left : S)
+        → Went stopped sys moves left → starts_of moves ≡ []
+        → WentFrom stopped stopped sys moves left
+    only_turns false sys moves left went none = went
+    only_turns true sys moves left went none = (went, none)
+
+    -- something is done, and then more
+    moves_then : (from to : Bool) (sys : S) (xs : List (Move E H C F D R)) (between : S)
+        (ys : List (Move E H C F D R)) (left : S) → (from ≡ true → to ≡ true)
+        → Went from sys xs between → Went to between ys left → Went to sys (xs ++ ys) left
+    moves_then from to sys xs between ys left grows first next =
+        folds_on (IsMove views may allows refuses (IsDue (may_show tasks.clock.now) tasks.limit to))
+        sys xs between ys left (moves_on views may allows refuses
+        (due_on (may_show tasks.clock.now) tasks.limit from to grows) sys xs between first) next
+
+    -- none is started after none was
+    none_then : (xs ys : List (Move E H C F D R)) → starts_of xs ≡ [] → starts_of ys ≡ []
+        → starts_of (xs ++ ys) ≡ []
+    none_then xs ys none more = starts_on xs ys
+        ∙ ap (λ (all : List (Start E H C F D R)). all ++ starts_of ys) none ∙ more
+
+    -- the same of what a failure may stop
+    proceeds_then : (from mid to : Bool) (sys : S) (xs : List (Move E H C F D R)) (between : S)
+        (ys : List (Move E H C F D R)) (left : S) → (from ≡ true → mid ≡ true)
+        → (mid ≡ true → to ≡ true) → WentFrom from mid sys xs between
+        → WentFrom mid to between ys left → WentFrom from to sys (xs ++ ys) left
+    proceeds_then false false false sys xs between ys left grows more first next =
+        moves_then false false sys xs between ys left more first next
+    proceeds_then false false true sys xs between ys left grows more first
+        (early, late, middle, are, went, stops, none) = (
+          xs ++ early,
+          late,
+          middle,
+          ap (λ (all : List (Move E H C F D R)). xs ++ all) are ∙ sym (append_assoc xs early late),
+          moves_then false false sys xs between early middle grows first went,
+          stops,
+          none,
+        )
+    proceeds_then false true false sys xs between ys left grows more first next =
+        absurd (let no = more refl in cc)
+    proceeds_then false true true sys xs between ys left grows more
+        (early, late, middle, are, went, stops, none) (next, no_more) = (
+          early,
+          late ++ ys,
+          middle,
+          ap (λ (all : List (Move E H C F D R)). all ++ ys) are ∙ append_assoc early late ys,
+          went,
+          moves_then true true middle late between ys left more stops next,
+          none_then late ys none no_more,
+        )
+    proceeds_then true false to sys xs between ys left grows more first next =
+        absurd (let no = grows refl in cc)
+    proceeds_then true true to sys xs between ys left grows more (first, none) (next, no_more) =
+        (moves_then true to sys xs between ys left more first next, none_then xs ys none no_more)
+
 -- what came of each start, once each task has ended
 zip_ended : {S E C F D H R : Type 0} (views : SystemViews S E C F D (Unit {0}) Bytes)
     (remaining : R → Option (List ℕ)) (shows : Duration → Type 0) (grace : Duration) (due : Type 0)
@@ -201,7 +273,7 @@ module _ {S E C F D : Type 0} {views : SystemViews S E C F D (Unit {0}) Bytes} {
   goes_raised tasks from to grows items sys had = record {
     grows = grows;
     moves = [];
-    went = refl;
+    went = nothing views may remaining allows refuses may_show tasks from to sys grows;
     more = 0;
     more_is = omega arith;
     counts = refl;
@@ -231,10 +303,8 @@ module _ {S E C F D : Type 0} {views : SystemViews S E C F D (Unit {0}) Bytes} {
       record {
         grows = λ is. next.grows (first.grows is);
         moves = first.moves ++ next.moves;
-        went = folds_on (IsMove views may allows refuses
-            (IsDue (may_show tasks.clock.now) tasks.limit to)) sys first.moves between next.moves
-            left (moves_on views may allows refuses (due_on (may_show tasks.clock.now) tasks.limit mid to next.grows) sys first.moves
-            between first.went) next.went;
+        went = proceeds_then views may remaining allows refuses may_show tasks from mid to sys
+            first.moves between next.moves left first.grows next.grows first.went next.went;
         more = first.more + next.more;
         more_is = omega (arith, first.more_is, next.more_is);
         counts = next.counts
@@ -257,12 +327,13 @@ module _ {S E C F D : Type 0} {views : SystemViews S E C F D (Unit {0}) Bytes} {
       has
       → Goes views may remaining allows refuses may_show tasks stopped stopped items
       (set items at after) sys left had has
-  goes_at tasks stopped at items before after is some goes =
+  goes_at tasks stopped at items before after {sys} {left} is some goes =
       let sums = changed (λ (t : Task (RunningView C F D) R). left_of t) before after at items is some
       in record {
         grows = λ it. it;
         moves = goes.moves;
-        went = goes.went;
+        went = only_turns views may remaining allows refuses may_show tasks stopped sys goes.moves
+            left goes.went goes.none;
         more = goes.more;
         more_is = omega (arith, sums.0, sums.1, goes.more_is);
         counts = goes.counts;

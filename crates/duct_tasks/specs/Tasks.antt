@@ -415,6 +415,19 @@ module _ {S E C F D : Type 0} (views : SystemViews S E C F D (Unit {0}) Bytes) {
     abbrev pub Moves : Bool → S → List (Move E H C F D R) → S → Type 0
     Moves stopped = FoldsTo (IsMove views may allows refuses (MayStop may_show tasks stopped))
 
+    -- the same; where this says that a failure has stopped them, none is started from a moment on,
+    -- and until then signals are sent only where a limit has passed
+    abbrev pub Proceeds : Bool → S → List (Move E H C F D R) → S → Type 0
+    Proceeds false before moves after = Moves false before moves after
+    Proceeds true before moves after =
+        (first rest : List (Move E H C F D R)) × (between : S) × (moves ≡ first ++ rest)
+        × Moves false before first between × Moves true between rest after × (starts_of rest ≡ [])
+
+    -- the same, where the first says whether a failure had stopped them before
+    abbrev pub ProceedsFrom : Bool → Bool → S → List (Move E H C F D R) → S → Type 0
+    ProceedsFrom false to before moves after = Proceeds to before moves after
+    ProceedsFrom true to before moves after = Moves to before moves after × (starts_of moves ≡ [])
+
     -- a task was started, and this is where it is; or it could not be. The start gave children to a
     -- pool where it failed
     pub record StartsTask (root : Expression E H) (sys left : S) (had has : ℕ)
@@ -455,7 +468,7 @@ module _ {S E C F D : Type 0} (views : SystemViews S E C F D (Unit {0}) Bytes) {
         (sys left : S) (had has : ℕ) : Type 0 where
       pub grows : from ≡ true → to ≡ true
       pub moves : List (Move E H C F D R)
-      pub went : Moves to sys moves left
+      pub went : ProceedsFrom from to sys moves left
       pub more : ℕ
       pub more_is : sum_by left_of after ≡ sum_by left_of before + more
       pub counts : has ≡ counted had (given_by moves + more)
@@ -466,12 +479,12 @@ module _ {S E C F D : Type 0} (views : SystemViews S E C F D (Unit {0}) Bytes) {
     -- the tasks were started in order, and this came of each: all of them, unless one failed and
     -- that is to end the starts; the pool was given the children of those that failed, and of the
     -- lines that sent signals, and none else; and signals were sent only where a limit had passed,
-    -- or where one had failed and that is to stop the others
+    -- or where one had failed and that is to stop the others, and then no start followed
     pub record RanAll (before : S × PoolView C) (ends : List Finished) (after : S × PoolView C)
         : Type 0 where
       pub stopped : Bool
       pub moves : List (Move E H C F D R)
-      pub went : Moves stopped before.0 moves after.0
+      pub went : Proceeds stopped before.0 moves after.0
       pub came : AllZip (Came views remaining (shown_by may_show tasks) tasks.grace
           (MayStop may_show tasks stopped)) (starts_of moves) ends
       pub roots : map (λ s. s.root) (starts_of moves) ≡ take (length ends) tasks.all.now
