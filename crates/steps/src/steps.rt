@@ -1,5 +1,5 @@
 //! Steps, of lines `name: command line`: so many run at once, up to the first failure.
-ghost use Rattle.std.specs.Prelude.{◌≡◌, IfOk};
+ghost use Rattle.std.specs.Prelude.{◌≡◌, IfErr, IfOk};
 ghost use Rattle.std.specs.List.{list_any};
 ghost use Rattle.duct_tasks.specs.Tasks.{has_failed};
 ghost use Rattle.steps.specs.Runs.{Ran};
@@ -90,7 +90,7 @@ impl<'t, E: Drop> Steps<'t, E> {
 /// Runs steps over a system, at most so many at once, and none for longer than the limit, if there
 /// is one. Once one has failed, no other is started, and those that run are ended, with the groups
 /// that their commands lead. Returns what came of those that were started. `tell` is called as by
-/// `run_all`.
+/// `run_all`. Blocks until no step runs. Fails if memory runs out, before any is started.
 pub fn run_steps<'s, S: System, C: Clock, T: FnMut(usize, Progress<'_>)>(
     rt: &(impl Threads + Wait + AllocGlobal),
     system: &mut S,
@@ -103,9 +103,10 @@ pub fn run_steps<'s, S: System, C: Clock, T: FnMut(usize, Progress<'_>)>(
 where
     S::Reader: Send + 'static,
     requires { (t : T) (place : _) (told : _) → T.pre t place told }
-    ensures { IfOk result (λ ends. Ran ⟦<S as Viewed>⟧.views S.may_read S.Reader.remaining
+    ensures ran { IfOk result (λ ends. Ran ⟦<S as Viewed>⟧.views S.may_read S.Reader.remaining
         ⟦<NoHook as Hook>⟧.allows ⟦<NoHook as Hook>⟧.refuses C.may_show
         steps.now.commands.items limit system.old ends.items system.new) }
+    ensures failed { IfErr result (λ error. system.new ≡ system.old) }
 {
     let tasks = Tasks {
         all: &steps.commands,
