@@ -5,7 +5,6 @@ use Rattle.std.proofs.lemmas.Bool.Decides.{nat_tests}
 use Rattle.std.proofs.lemmas.Str.{encode_ascii}
 use Rattle.std.proofs.Math.Utf8.{encode, next}
 use Rattle.duct_program.specs.Parsed.{◌>>=◌}
-use Rattle.duct_words.specs.Place.{doubled}
 use Rattle.duct_words.specs.Quote.{between}
 use Rattle.duct_words.specs.Split.{RefusesAs, State, TokenView, bare, kind_of, ordinary, pushed, read, step}
 use Rattle.duct_words.specs.declared.error.SplitError.{SplitError}
@@ -155,10 +154,6 @@ module _ (place : ℕ) (state : State) (c : ℕ) (rest bytes : List ℕ) (at : �
   refused (UnclosedQuote at_place) went = sym (stepped (Err (UnclosedQuote at_place)) went)
   refused (LastBackslash at_place) went = sym (stepped (Err (LastBackslash at_place)) went)
   refused Memory went = tt
-
-pub doubled_one : (b : ℕ) (rest : List ℕ) → b ≢ 36 → doubled (b ∷ rest) ≡ b ∷ doubled rest
-doubled_one b rest other =
-    let differs : (b == 36) ≡ false = grind (arith, nat_tests) in rw (differs, doubled)
 
 pub between_one : (b : ℕ) (rest : List ℕ) → b ≢ 39 → between (b ∷ rest) ≡ b ∷ between rest
 between_one b rest other =

@@ -1,9 +1,10 @@
 -- What is hidden of bytes before more follow stays hidden so.
-use Rattle.std.proofs.Common.{◌≡◌, ℕ, zero, suc, ◌≤◌, Bool, true, false, ◌&&◌, List, [], ◌∷◌, ◌++◌, append-nil, append_assoc, arith, ap, subst, sym, ◌∙◌, refl, drop, inl, inr, length, nat_eq, nat_lt, not, codes}
+use Rattle.std.proofs.Common.{◌≡◌, ℕ, zero, suc, ◌≤◌, Bool, true, false, ◌&&◌, List, [], ◌∷◌, ◌++◌, append-nil, append_assoc, arith, ap, subst, sym, ◌∙◌, refl, drop, inl, inr, length, nat_eq, nat_lt, not, codes, Option}
 use Rattle.std.proofs.lemmas.Bool.{and_right, cases_Bool, cases_eq, eq-eqb, ne_eqb, or_parts}
 use Rattle.std.proofs.lemmas.Bool.Decides.{nat_tests}
 use Rattle.std.proofs.lemmas.List.{drop-append-le}
 use Rattle.std.specs.List.{starts_with}
+use Rattle.duct_base.specs.Transfer.{AppendsFront}
 use Rattle.duct_words.specs.Hidden.{hidden, hidden_behind, is_begun, longest}
 
 -- bytes that are not the beginning of a secret, or all of it, begin with it as do those with more
@@ -120,6 +121,26 @@ module _ (secrets : List (List ℕ)) (at_end : Bool) (shown after others : List 
       ap (λ more. shown ++ more) (hidden-secret secrets at_end first rest others none decided n found)
       ∙ sym (append_assoc shown (codes "***") _)
       ∙ ap (λ text. text ++ hidden secrets (drop n rest ++ others)) (sym is)) decided found
+
+-- a front of what is shown is one of all
+front_of_all : (old new : Option (List ℕ)) (shown more all : List ℕ) → all ≡ shown ++ more
+    → AppendsFront old new shown → AppendsFront old new all
+front_of_all old new shown more all split front = (
+  front.0,
+  front.1 ++ more,
+  split ∙ ap (λ bytes. bytes ++ more) front.2 ∙ append_assoc front.0 front.1 more,
+  front.3,
+)
+
+-- a front of what is shown of these bytes is one of what all show, whatever follows
+pub passes-front : (secrets : List (List ℕ)) (held buf bytes before shown rest others : List ℕ)
+    (old new : Option (List ℕ)) → before ≡ [] → bytes ≡ held ++ buf
+    → before ++ hidden secrets (bytes ++ others) ≡ shown ++ hidden secrets (rest ++ others)
+    → AppendsFront old new shown → AppendsFront old new (hidden secrets (held ++ (buf ++ others)))
+passes-front secrets held buf bytes before shown rest others old new none same all front =
+    let whole : hidden secrets (held ++ (buf ++ others)) ≡ shown ++ hidden secrets (rest ++ others) =
+    cc (none, same, all, append_assoc held buf others) in
+    front_of_all old new shown (hidden secrets (rest ++ others)) _ whole front
 
 -- at the end all is shown
 pub hidden-all : (secrets : List (List ℕ)) (held before shown rest : List ℕ) → before ≡ []

@@ -1,12 +1,12 @@
 -- The tokens of quoted words are these words.
-use Rattle.std.proofs.Common.{◌≡◌, ℕ, suc, Bool, true, false, not, List, [], ◌∷◌, ◌++◌, map, Ok, refl, sym, ap, subst, ◌∙◌, append_assoc, length, ⊎_elim, inl, inr, ◌⊎◌, ◌≢◌, ◌==◌, ◌&&◌, if◌then◌else◌, Result}
+use Rattle.std.proofs.Common.{◌≡◌, ℕ, suc, Bool, true, false, not, List, [], ◌∷◌, ◌++◌, map, Ok, refl, sym, ap, subst, ◌∙◌, append_assoc, length, ⊎_elim, inl, inr, ◌⊎◌, ◌≢◌, ◌==◌, ◌&&◌, ◌||◌, arith, if◌then◌else◌, Result}
 use Rattle.std.proofs.lemmas.Bool.{and_parts, cases_Bool}
-use Rattle.std.proofs.lemmas.Bool.Decides.{eqb_tells}
+use Rattle.std.proofs.lemmas.Bool.Decides.{eqb_tells, nat_tests}
 use Rattle.std.proofs.lemmas.List.{append-nil}
 use Rattle.std.specs.List.{list_all}
 use Rattle.duct_words.proofs.Characters.{between_one}
 use Rattle.duct_program.specs.Parsed.{◌>>=◌}
-use Rattle.duct_words.specs.Quote.{between, further, has_no_quotes, is_bare, is_bare_byte, is_reserved, quote_of, quoted}
+use Rattle.duct_words.specs.Quote.{between, further, has_no_quotes, is_bare, is_bare_byte, is_marked, is_reserved, quote_of, quoted}
 use Rattle.duct_words.specs.Split.{State, TokenView, bare, is_plain, kind_of, ordinary, read, single, split_of, word}
 use Rattle.duct_words.specs.declared.error.SplitError.{SplitError}
 use Rattle.duct_words.specs.declared.kind.Kind.TheVariants.{Ordinary}
@@ -31,9 +31,9 @@ within tokens is_first bytes part mode = record {
 abbrev ReadsOn : ℕ → State → List ℕ → State → List ℕ → Type 0
 ReadsOn place state bytes after rest = (there : ℕ) × (read place state bytes ≡ read there after rest)
 
-plain_kind : (b : ℕ) → is_plain b ≡ true → kind_of b ≡ Ordinary
+plain_kind : (b : ℕ) → (b == 37) ≡ false → is_plain b ≡ true → kind_of b ≡ Ordinary
 unfolding kind_of
-plain_kind b plain = rw (plain, kind_of)
+plain_kind b other plain = rw (other, plain, kind_of)
 
 not_first : (is_first : Bool) → not is_first ≡ true → is_first ≡ false
 not_first true is = absurd (cc)
@@ -48,11 +48,22 @@ equals_sign : (place : ℕ) (tokens : List TokenView) (bytes : List ℕ) (part :
 unfolding kind_of
 equals_sign place tokens bytes part = refl
 
-bare_byte : (place : ℕ) (tokens : List TokenView) (is_first : Bool) (bytes : List ℕ) (part : Part) (b : ℕ)
-    → is_bare_byte is_first b ≡ true → IsOrdinary place (within tokens is_first bytes part Bare) b
-bare_byte place tokens is_first bytes part b needs_none =
+-- a `%` that doesn't begin the first word
+percent_sign : (place : ℕ) (tokens : List TokenView) (is_first : Bool) (bytes : List ℕ) (part : Part)
+    → (is_first ≡ true → bytes ≡ [] → ⊥)
+    → IsOrdinary place (within tokens is_first bytes part Bare) 37
+unfolding kind_of
+percent_sign place tokens false bytes part inside = refl
+percent_sign place tokens true [] part inside = absurd (inside refl refl)
+percent_sign place tokens true (b ∷ bytes) part inside =
+    let some : (length (b ∷ bytes) == 0) ≡ false = grind (arith, nat_tests) in rw (some, bare)
+
+other_byte : (place : ℕ) (tokens : List TokenView) (is_first : Bool) (bytes : List ℕ) (part : Part) (b : ℕ)
+    → is_bare_byte is_first b ≡ true → (b == 37) ≡ false
+    → IsOrdinary place (within tokens is_first bytes part Bare) b
+other_byte place tokens is_first bytes part b needs_none other =
     ⊎_elim
-    (λ (plain : is_plain b ≡ true). rw (plain_kind b plain, bare))
+    (λ (plain : is_plain b ≡ true). rw (plain_kind b other plain, bare))
     (λ (special : is_plain b ≡ false).
     let equals : (b == 61 && not is_first) ≡ true = rw special at needs_none in
     let parts = and_parts (b == 61) (not is_first) equals in
@@ -63,36 +74,63 @@ bare_byte place tokens is_first bytes part b needs_none =
     (sym (not_first is_first parts.1)) (equals_sign place tokens bytes part)))
     (cases_Bool (is_plain b))
 
+bare_byte : (place : ℕ) (tokens : List TokenView) (is_first : Bool) (bytes : List ℕ) (part : Part) (b : ℕ)
+    → is_bare_byte is_first b ≡ true → (b ≡ 37 → is_first ≡ true → bytes ≡ [] → ⊥)
+    → IsOrdinary place (within tokens is_first bytes part Bare) b
+bare_byte place tokens is_first bytes part b needs_none inside =
+    ⊎_elim
+    (λ (yes : ((b == 37) ≡ true) × (b ≡ 37)).
+    subst (λ (c : ℕ). IsOrdinary place (within tokens is_first bytes part Bare) c) (sym yes.1)
+    (percent_sign place tokens is_first bytes part (inside yes.1)))
+    (λ (no : ((b == 37) ≡ false) × (b ≢ 37)).
+    other_byte place tokens is_first bytes part b needs_none no.0)
+    (eqb_tells b 37)
+
 -- further bytes that need no quotes
-bare_rest : (place : ℕ) (tokens : List TokenView) (is_first : Bool) (done bytes rest : List ℕ)
+bare_rest : (place : ℕ) (tokens : List TokenView) (is_first : Bool) (d : ℕ) (done bytes rest : List ℕ)
     → list_all (is_bare_byte is_first) bytes ≡ true
-    → ReadsOn place (within tokens is_first done Plain Bare) (bytes ++ rest)
-    (within tokens is_first (done ++ bytes) Plain Bare) rest
-bare_rest place tokens is_first done [] rest need_none =
-    (place, ap (λ (w : List ℕ). read place (within tokens is_first w Plain Bare) rest) (sym (append-nil done)))
-bare_rest place tokens is_first done (b ∷ bytes) rest need_none =
+    → ReadsOn place (within tokens is_first (d ∷ done) Plain Bare) (bytes ++ rest)
+    (within tokens is_first (d ∷ done ++ bytes) Plain Bare) rest
+bare_rest place tokens is_first d done [] rest need_none =
+    (place, ap (λ (w : List ℕ). read place (within tokens is_first (d ∷ w) Plain Bare) rest) (sym (append-nil done)))
+bare_rest place tokens is_first d done (b ∷ bytes) rest need_none =
     let parts = and_parts (is_bare_byte is_first b) (list_all (is_bare_byte is_first) bytes) need_none in
-    let next = bare_rest (suc place) tokens is_first (done ++ b ∷ []) bytes rest parts.1 in (
+    let next = bare_rest (suc place) tokens is_first d (done ++ b ∷ []) bytes rest parts.1 in (
       next.0,
       ap (λ (r : Result State SplitError). r >>= λ after. read (suc place) after (bytes ++ rest))
-          (bare_byte place tokens is_first done Plain b parts.0)
+          (bare_byte place tokens is_first (d ∷ done) Plain b parts.0 (λ _ _ none. absurd (cc none)))
           ∙ next.1
-          ∙ ap (λ (w : List ℕ). read next.0 (within tokens is_first w Plain Bare) rest)
+          ∙ ap (λ (w : List ℕ). read next.0 (within tokens is_first (d ∷ w) Plain Bare) rest)
           (append_assoc done (b ∷ []) bytes),
     )
 
 bare_word : (place : ℕ) (tokens : List TokenView) (is_first : Bool) (b : ℕ) (bytes rest : List ℕ)
-    → list_all (is_bare_byte is_first) (b ∷ bytes) ≡ true
+    → list_all (is_bare_byte is_first) (b ∷ bytes) ≡ true → (b ≡ 37 → is_first ≡ true → ⊥)
     → ReadsOn place (within tokens is_first [] Gap Bare) (b ∷ bytes ++ rest)
     (within tokens is_first (b ∷ bytes) Plain Bare) rest
-bare_word place tokens is_first b bytes rest need_none =
+bare_word place tokens is_first b bytes rest need_none no_job =
     let parts = and_parts (is_bare_byte is_first b) (list_all (is_bare_byte is_first) bytes) need_none in
-    let next = bare_rest (suc place) tokens is_first (b ∷ []) bytes rest parts.1 in (
+    let next = bare_rest (suc place) tokens is_first b [] bytes rest parts.1 in (
       next.0,
       ap (λ (r : Result State SplitError). r >>= λ after. read (suc place) after (bytes ++ rest))
-          (bare_byte place tokens is_first [] Gap b parts.0)
+          (bare_byte place tokens is_first [] Gap b parts.0 (λ is first _. no_job is first))
           ∙ next.1,
     )
+
+both_ways : (b : Bool) → b ≡ true → not b ≡ true → ⊥
+both_ways true is not_so = absurd (cc)
+both_ways false is not_so = absurd (cc)
+
+-- a first word that stands bare begins with no `%`
+no_job : (is_first : Bool) (b : ℕ) (bytes : List ℕ)
+    → not (is_first && (is_marked (b ∷ bytes) || is_reserved (b ∷ bytes))) ≡ true
+    → b ≡ 37 → is_first ≡ true → ⊥
+no_job false b bytes free is first = absurd (cc)
+no_job true b bytes free is first =
+    let marked : is_marked (b ∷ bytes) ≡ true =
+    subst (λ (c : ℕ). is_marked (c ∷ bytes) ≡ true) (sym is) refl in
+    both_ways (is_marked (b ∷ bytes) || is_reserved (b ∷ bytes))
+    (ap (λ (m : Bool). m || is_reserved (b ∷ bytes)) marked) free
 
 -- a byte in single quotes, other than one
 between_quotes : (place at : ℕ) (tokens : List TokenView) (is_first : Bool) (done : List ℕ) (b : ℕ) (rest : List ℕ)
@@ -142,9 +180,10 @@ unfolding kind_of
 word_by place tokens is_first [] rest true is = absurd (cc)
 word_by place tokens is_first (b ∷ bytes) rest true is =
     let parts = and_parts (not (length (b ∷ bytes) == 0)) (has_no_quotes is_first (b ∷ bytes)) is in
-    let need_none = and_parts (not (is_first && is_reserved (b ∷ bytes)))
+    let need_none = and_parts (not (is_first && (is_marked (b ∷ bytes) || is_reserved (b ∷ bytes))))
     (list_all (is_bare_byte is_first) (b ∷ bytes)) parts.1 in
-    inl (bare_word place tokens is_first b bytes rest need_none.1)
+    inl (bare_word place tokens is_first b bytes rest need_none.1
+    (no_job is_first b bytes need_none.0))
 word_by place tokens is_first w rest false is = inr (quoted_rest (suc place) place tokens is_first [] w rest)
 
 -- all words

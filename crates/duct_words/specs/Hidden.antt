@@ -2,6 +2,7 @@
 use Rattle.std.specs.Prelude.{◌≡◌, ℕ, zero, suc, List, [], ◌∷◌, ◌++◌, Bool, true, ◌&&◌, if◌then◌else◌, codes, length, max, nat_eq, nat_lt, Option}
 use Rattle.std.specs.Io.KnownBytes.{Appends}
 use Rattle.std.specs.List.{list_any, starts_with}
+use Rattle.duct_base.specs.Transfer.{AppendsFront}
 
 -- the length of the longest secret that bytes begin with, or 0
 abbrev pub longest : List (List ℕ) → List ℕ → ℕ
@@ -47,3 +48,10 @@ abbrev pub Passes : List (List ℕ) → Option (List ℕ) → Option (List ℕ) 
 Passes secrets old new held bytes left =
     (written : List ℕ) × Appends old new written × Hides secrets held bytes written left
     × IsHeld secrets left
+
+-- whatever follows, a writer got a front of what was held back and then these bytes, with the
+-- secrets hidden
+abbrev pub PassesFront : List (List ℕ) → Option (List ℕ) → Option (List ℕ) → List ℕ → List ℕ
+    → Type 0
+PassesFront secrets old new held bytes =
+    (others : List ℕ) → AppendsFront old new (hidden secrets (held ++ (bytes ++ others)))

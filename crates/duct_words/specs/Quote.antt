@@ -7,6 +7,11 @@ use Rattle.duct_words.specs.Split.{is_plain}
 abbrev pub is_bare_byte : Bool → ℕ → Bool
 is_bare_byte is_first b = is_plain b || (b == 61 && not is_first)
 
+-- whether a word begins as an option of `sh` does, or as a job
+abbrev pub is_marked : List ℕ → Bool
+is_marked [] = false
+is_marked (b ∷ bytes) = b == 45 || b == 43 || b == 37
+
 -- whether a shell obeys a word as the first of its command: it begins a compound command, or
 -- continues or ends one, or is one of bash's own
 abbrev pub is_reserved : List ℕ → Bool
@@ -22,7 +27,7 @@ is_reserved word =
 -- whether a word needs no quotes as the first of its command, nor do its bytes
 abbrev pub has_no_quotes : Bool → List ℕ → Bool
 has_no_quotes is_first word =
-    not (is_first && is_reserved word) && list_all (is_bare_byte is_first) word
+    not (is_first && (is_marked word || is_reserved word)) && list_all (is_bare_byte is_first) word
 
 -- whether a word needs no quotes
 abbrev pub is_bare : Bool → List ℕ → Bool

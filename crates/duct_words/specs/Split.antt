@@ -1,13 +1,13 @@
 -- What a shell takes a character for, as its code says; the tokens of a text, read one byte after
 -- the other, or why it has none; and what contracts see of tokens, and of what was read so far.
-use Rattle.std.specs.Prelude.{◌≡◌, ℕ, suc, List, [], ◌∷◌, ◌++◌, Bool, true, false, ◌==◌, ◌&&◌, ◌||◌, not, Ok, Err, if◌then◌else◌, codes, map, string_bytes, bytes_eq, Result}
+use Rattle.std.specs.Prelude.{◌≡◌, ℕ, suc, List, [], ◌∷◌, ◌++◌, Bool, true, false, ◌==◌, ◌&&◌, ◌||◌, not, Ok, Err, if◌then◌else◌, codes, length, map, string_bytes, bytes_eq, Result}
 use Rattle.std.specs.Char.{is_ascii_alphanumeric, is_ascii_digit}
 use Rattle.std.specs.List.{list_all, list_any}
 use Rattle.duct_system.specs.declared.spec.Stream.{Stream}
 use Rattle.duct_system.specs.declared.spec.Stream.TheVariants as streams
 use Rattle.duct_program.specs.Parsed.{◌>>=◌}
 use Rattle.duct_words.specs.declared.kind.Kind.{Kind}
-use Rattle.duct_words.specs.declared.kind.Kind.TheVariants.{Ordinary, Blank, Newline, SingleQuote, DoubleQuote, Backslash, Pipe, Less, Greater, Equals, Expansion, Special}
+use Rattle.duct_words.specs.declared.kind.Kind.TheVariants.{Ordinary, Percent, Blank, Newline, SingleQuote, DoubleQuote, Backslash, Pipe, Less, Greater, Equals, Expansion, Special}
 use Rattle.duct_words.specs.declared.lexer.Lexer.{Lexer}
 use Rattle.duct_words.specs.declared.lexer.Part.{Part}
 use Rattle.duct_words.specs.declared.lexer.Part.TheVariants.{Gap, Operator, Plain, Quoted}
@@ -29,7 +29,8 @@ is_plain c = is_ascii_alphanumeric c || is_one_of (codes "@%+:,./-_") c
 -- what it is, where no quote is open
 unfoldable pub kind_of : ℕ → Kind
 kind_of c =
-    if is_plain c then Ordinary
+    if c == 37 then Percent
+    else if is_plain c then Ordinary
     else if is_one_of (codes " \t") c then Blank
     else if c == 10 then Newline
     else if c == 39 then SingleQuote
@@ -163,6 +164,9 @@ abbrev pub bare : ℕ → State → ℕ → List ℕ → Result State SplitError
 bare place state c bytes =
     elim (kind_of c) [
       | Ordinary ↦ Ok (ordinary state bytes)
+      | Percent ↦
+          if state.at_path || not state.at_command || not (length state.word == 0)
+          then Ok (ordinary state bytes) else Err (Unquoted c place)
       | Blank ↦ Ok (record (finished state) { part = Gap })
       | SingleQuote ↦ Ok (record state { part = Quoted; mode = Single place })
       | DoubleQuote ↦ Ok (record state { part = Quoted; mode = Double place })

@@ -4,7 +4,7 @@ use Rattle.std.specs.Char.{is_ascii_alphanumeric, is_ascii_digit}
 use Rattle.std.specs.List.{list_all, list_any, position_or_len}
 use Rattle.std.specs.Option.{option_map_or}
 use Rattle.std.specs.Result.{result_map_both}
-use Rattle.std.specs.Str.Lines.{lines}
+use Rattle.std.specs.Str.Lines.{lines, strip_carriage_return}
 use Rattle.duct_system.specs.Name.{is_same_name}
 use Rattle.duct_start.specs.TreeView.{TreeView, around, env}
 use Rattle.duct_program.specs.Parsed.{◌>>=◌}
@@ -46,6 +46,15 @@ parts_of text =
     let place = position_or_len (λ b. b == 61) text in
     if place == length text then None else Some (take place text, drop (place + 1) text)
 
+-- whether it is a quote or a backslash
+abbrev pub is_quote : ℕ → Bool
+is_quote b = b == 34 || b == 39 || b == 92
+
+-- whether a quote or a backslash stands before the first `=`
+abbrev pub has_quoted_name : List ℕ → Bool
+has_quoted_name line =
+    option_map_or (λ parts. list_any is_quote parts.0) (parts_of line) false
+
 -- the pairs with that of a word
 abbrev pub with_word : ℕ → List Pair → List ℕ → Result (List Pair) VariablesError
 with_word number pairs text =
@@ -57,20 +66,23 @@ with_word number pairs text =
           else Ok (pairs ++ pair ∷ [])
     ]
 
--- the pairs with that of a line's tokens: one word, before which `export` may stand, or none
-abbrev pub with_tokens : ℕ → List Pair → List TokenView → Result (List Pair) VariablesError
-with_tokens number pairs [] = Ok pairs
-with_tokens number pairs (word text ∷ []) = with_word number pairs text
-with_tokens number pairs (word first ∷ word text ∷ []) =
+-- the pairs with that of a line's tokens: none; one word, of which a shell makes a command if its
+-- name is quoted; or one behind `export`
+abbrev pub with_tokens : ℕ → List Pair → List ℕ → List TokenView
+    → Result (List Pair) VariablesError
+with_tokens number pairs line [] = Ok pairs
+with_tokens number pairs line (word text ∷ []) =
+    if has_quoted_name line then Err (Name number) else with_word number pairs text
+with_tokens number pairs line (word first ∷ word text ∷ []) =
     if bytes_eq first (codes "export") then with_word number pairs text else Err (NoPair number)
-with_tokens number pairs others = Err (NoPair number)
+with_tokens number pairs line others = Err (NoPair number)
 
 -- the pairs with that of a line, which has the tokens that it has behind a command
 abbrev pub with_line : ℕ → List Pair → List ℕ → Result (List Pair) VariablesError
 with_line number pairs line =
     if is_comment line then Ok pairs
     else result_map_both (λ same. same) (at_line number) (read 0 (start_at false) line)
-    >>= λ tokens. with_tokens number pairs tokens
+    >>= λ tokens. with_tokens number pairs line tokens
 
 -- the pairs with those of lines, of which the first has this number
 abbrev pub with_lines : ℕ → List Pair → List (List ℕ) → Result (List Pair) VariablesError
@@ -78,9 +90,9 @@ with_lines number pairs [] = Ok pairs
 with_lines number pairs (line ∷ others) =
     with_line number pairs line >>= λ more. with_lines (number + 1) more others
 
--- the variables of a text
+-- the variables of a text, whose last line may end in a carriage return
 abbrev pub variables_of : List ℕ → Result (List Pair) VariablesError
-variables_of text = with_lines 1 [] (lines text)
+variables_of text = with_lines 1 [] (lines (strip_carriage_return text))
 
 -- the result, seen by a view, is what is read, or an allocation failed
 abbrev pub ParsesAs : {A B : Type 0} → (A → B) → Result A VariablesError → Result B VariablesError

@@ -1,12 +1,12 @@
 //! The variables of a text, for an expression.
 ghost use Rattle.std.specs.Prelude.{◌≡◌, map, option_map, IfOk, IsOkUnless};
 ghost use Rattle.std.specs.List.{list_all, list_any};
-ghost use Rattle.std.specs.Str.Lines.{lines};
+ghost use Rattle.std.specs.Str.Lines.{lines, strip_carriage_return};
 ghost use Rattle.duct_system.specs.Name.{is_same_name};
 ghost use Rattle.duct_system.specs.SpecView.{pair_text};
 ghost use Rattle.duct.specs.TreeView.{tree_view};
 ghost use Rattle.duct_words.specs.Split.{token_view};
-ghost use Rattle.duct_words.specs.Variables.{ParsesAs, at_line, first_of, is_comment, is_name, is_name_byte, parts_of, variables_of, with_line, with_pairs, with_tokens, with_word};
+ghost use Rattle.duct_words.specs.Variables.{ParsesAs, at_line, first_of, has_quoted_name, is_comment, is_name, is_name_byte, parts_of, variables_of, with_line, with_pairs, with_tokens, with_word};
 
 use crate::error::{SplitError, VariablesError};
 use crate::lexer::tokens_of;
@@ -17,14 +17,17 @@ use std::alloc::{AllocError, Global};
 /// Returns the variables of a text, as pairs of a name and a value. Each line is one word
 /// `name=value` by the quoting rules of [`split`](crate::split), as in `A=1`, `A="two words"` and
 /// `A='$1'`. An `export` may stand before it. A line is left out where it is blank, or where a `#`
-/// is its first character but for spaces and tabs. Nothing is expanded.
+/// is its first character but for spaces and tabs. A line ends with `\n` or `\r\n`, and the last
+/// one also with `\r` alone. Nothing is expanded, and a name that a shell sets itself, as bash's
+/// `UID`, is one as any other.
 ///
 /// Fails at the first line, from top to bottom, that a shell would expand or obey in another way,
 /// and tells its number: with `VariablesError::Split` as `split` does, so also at a quoted newline
 /// and at a comment behind a word; with `NoPair` where it isn't one word with a `=`; with `Name`
-/// where the name has other characters than letters and digits of ASCII and `_`, or a digit first;
-/// and with `Twice` where an earlier line has the name, in any spelling. Fails also at an
-/// allocation failure.
+/// where the name has other characters than letters and digits of ASCII and `_`, or a digit first,
+/// and where it or the `=` is quoted with no `export` before it, as in `"A"=1`, which a shell runs
+/// as a command; and with `Twice` where an earlier line has the name, in any spelling. Fails also
+/// at an allocation failure.
 ///
 /// Example: `variables(alloc, fs::read_to_string(&rt, ".env")?.as_str())?`
 pub fn variables(alloc: Global, text: &str) -> Result<Vec<(String, String)>, VariablesError>
@@ -57,10 +60,12 @@ pub fn with_variables<E: Drop, H: Drop>(
     Ok(made)
 }
 
-// The lines of a text.
+// The lines of a text, of which the last one may end in a carriage return.
 fn lines_of(alloc: Global, text: &str) -> Result<Vec<&str>, AllocError>
-    ensures { IfOk result (λ all. map (λ line. line.now) all.items ≡ lines text.now) }
+    ensures { IfOk result
+        (λ all. map (λ line. line.now) all.items ≡ lines (strip_carriage_return text.now)) }
 {
+    let text = text.strip_suffix('\r').unwrap_or(text);
     text.lines().collect(alloc)
 }
 
@@ -78,7 +83,7 @@ fn push_line(
         return Ok(());
     }
     let tokens = tokens_of(alloc, line, false).map_err(|error| at_line(number, error))?;
-    push_tokens(alloc, pairs, number, tokens.as_slice())
+    push_tokens(alloc, pairs, number, line, tokens.as_slice())
 }
 
 // Whether a line is a comment.
@@ -111,19 +116,21 @@ fn at_line(line: usize, error: SplitError) -> VariablesError
 fn push_tokens(
     alloc: Global,
     pairs: &mut Vec<(String, String)>,
-    line: usize,
+    number: usize,
+    line: &str,
     tokens: &[Token],
 ) -> Result<(), VariablesError>
     ensures { ParsesAs (λ _. map pair_text pairs.new.items) result
-        (with_tokens line (map pair_text pairs.old.items) (map token_view tokens.now)) }
+        (with_tokens number (map pair_text pairs.old.items) line.now (map token_view tokens.now)) }
 {
     match tokens {
         [] => Ok(()),
-        [Token::Word(word)] => push_word(alloc, pairs, line, word.as_str()),
+        [Token::Word(_)] if has_quoted_name(line) => Err(VariablesError::Name { line: number }),
+        [Token::Word(word)] => push_word(alloc, pairs, number, word.as_str()),
         [Token::Word(first), Token::Word(word)] if first.as_str() == "export" => {
-            push_word(alloc, pairs, line, word.as_str())
+            push_word(alloc, pairs, number, word.as_str())
         }
-        _ => Err(VariablesError::NoPair { line }),
+        _ => Err(VariablesError::NoPair { line: number }),
     }
 }
 
@@ -157,6 +164,16 @@ fn parts_of(word: &str) -> Option<(&str, &str)>
     ensures { option_map (λ parts. (parts.0.now, parts.1.now)) result ≡ parts_of word.now }
 {
     word.split_once('=')
+}
+
+// Whether a quote or a backslash stands before the first `=` of a line.
+fn has_quoted_name(line: &str) -> bool
+    ensures { result ≡ has_quoted_name line.now }
+{
+    match parts_of(line) {
+        None => false,
+        Some((name, _)) => name.bytes().any(|b| b == b'"' || b == b'\'' || b == b'\\'),
+    }
 }
 
 // Whether a text is a name: letters, digits and `_`, and no digit first.

@@ -64,7 +64,7 @@ pub enum VariablesError {
     /// The line is not one word with a `=`.
     #[error("line {line}: no name=value")]
     NoPair { line: usize },
-    /// What stands before the first `=` is no name.
+    /// What stands before the first `=` is no name, or is quoted with no `export` before it.
     #[error("line {line}: no name before the =")]
     Name { line: usize },
     /// An earlier line has this name, in this spelling or another one.

@@ -7,6 +7,8 @@ ghost use Rattle.duct_words.specs.Split.{is_plain, kind_of};
 pub(crate) enum Kind {
     /// A part of a word.
     Ordinary,
+    /// `%`, which makes a job of a command's first word that begins with it.
+    Percent,
     /// A space or a tab.
     Blank,
     Newline,
@@ -37,10 +39,9 @@ pub(crate) fn is_plain(c: char) -> bool
 pub(crate) fn kind_of(c: char) -> Kind
     ensures { result ≡ kind_of c }
 {
-    if is_plain(c) {
-        return Kind::Ordinary;
-    }
     match c {
+        '%' => Kind::Percent,
+        _ if is_plain(c) => Kind::Ordinary,
         ' ' | '\t' => Kind::Blank,
         '\n' => Kind::Newline,
         '\'' => Kind::SingleQuote,

@@ -58,10 +58,10 @@ struct Lexer {
 ///
 /// Nothing is expanded, and no character passes that a shell would expand or obey. Fails with
 /// `SplitError::Unquoted` at a newline and at each of `` $ ` * ? [ ~ # ; & ( ) { } ! `` that isn't
-/// quoted; at an `=` in the first word of a command, which is an assignment there, behind
-/// redirections too; at a second operator directly behind one, as in `>>`; and at a number directly
-/// before `<` or `>`, other than `2>`. Names are words: those of a shell's functions, aliases and
-/// reserved words too.
+/// quoted; at an `=` in the first word of a command, which is an assignment there, and at a `%` at
+/// its begin, which is a job, behind redirections too; at a second operator directly behind one, as
+/// in `>>`; and at a number directly before `<` or `>`, other than `2>`. Names are words: those of
+/// a shell's functions, aliases and reserved words too.
 ///
 /// Fails also at an unclosed quote, at a last backslash, and at an allocation failure.
 ///
@@ -147,7 +147,12 @@ impl Lexer {
             Kind::Less => self.redirection(Stream::In, place, c),
             Kind::Greater => self.redirection(Stream::Out, place, c),
             Kind::Equals if self.at_path || !self.at_command => self.ordinary(c),
-            Kind::Newline | Kind::Equals | Kind::Expansion | Kind::Special => unquoted(place, c),
+            Kind::Percent if self.at_path || !self.at_command || !self.word.is_empty() => {
+                self.ordinary(c)
+            }
+            Kind::Newline | Kind::Percent | Kind::Equals | Kind::Expansion | Kind::Special => {
+                unquoted(place, c)
+            }
         }
     }
 

@@ -1,7 +1,7 @@
 //! The words that run a command somewhere else.
 ghost use Rattle.std.specs.Prelude.{◌≡◌, ◌++◌, map, string_bytes, IfOk};
 ghost use Rattle.duct_system.specs.SpecView.{texts_of};
-ghost use Rattle.duct_words.specs.Place.{doubled, placed_words, unexpanded};
+ghost use Rattle.duct_words.specs.Place.{placed_words};
 
 use crate::quoted::quote;
 use duct_system::copy::copies_of_texts;
@@ -15,20 +15,17 @@ pub enum Place<'a> {
     Ssh(&'a str),
     /// As one task of a job of Slurm, by `srun`.
     Srun,
-    /// In a new container of this image, by `docker`.
-    Docker(&'a str),
-    /// In a new unit of the user's systemd, by `systemd-run`, which expands variables.
-    SystemdRun,
     /// Wherever these words run the words behind them, as `nice -n 5` does.
     Behind(&'a [&'a str]),
 }
 
 /// Returns the words that run the command of these words at a place. They get there as they are:
-/// for `ssh` they are one text of [`quote`](crate::quote), and for `systemd-run` each `$` of an
-/// argument is `$$`. Nothing is started. Fails only at an allocation failure.
+/// for `ssh` they are one text of [`quote`](crate::quote). Nothing is started. Fails only at an
+/// allocation failure.
 ///
-/// No name is looked at: a machine to `ssh`, an image to `docker`, and a program to `srun` or
-/// `systemd-run` is an option if it begins with `-`. To `srun` a word `:` ends the command.
+/// No name is looked at: a machine to `ssh`, and a program to `srun`, is an option if it begins with
+/// `-`. To `srun` a word `:` ends the command, and to bash on the other machine a program that begins
+/// with `%` is a job.
 ///
 /// Example: `over(alloc, &Place::Ssh("web"), &["ls", "a b"])?` has `ssh`, `web`, `--` and
 /// `ls 'a b'`.
@@ -46,12 +43,6 @@ pub fn over<W: AsStr>(
             joined(alloc, &["ssh", machine, "--"], &[text])
         }
         Place::Srun => joined(alloc, &["srun", "-Qn1"], words),
-        Place::Docker(image) => joined(alloc, &["docker", "run", "--rm", "-i", image], words),
-        Place::SystemdRun => {
-            let words = unexpanded(alloc, words)?;
-            let before = &["systemd-run", "--user", "--wait", "--pipe", "--collect"];
-            joined(alloc, before, words.as_slice())
-        }
         Place::Behind(before) => joined(alloc, before, words),
     }
 }
@@ -66,35 +57,4 @@ fn joined<W: AsStr>(alloc: Global, before: &[&str], words: &[W]) -> Result<Vec<S
         all.push(String::from_str(alloc, word.as_str())?)?;
     }
     Ok(all)
-}
-
-// Copies of the words of a command, which systemd expands to these words.
-fn unexpanded<W: AsStr>(alloc: Global, words: &[W]) -> Result<Vec<String>, AllocError>
-    ensures { IfOk result
-        (λ all. map string_bytes all.items ≡ unexpanded (map W.text words.now)) }
-{
-    let mut all = Vec::new(alloc);
-    let Some((program, arguments)) = words.split_first() else {
-        return Ok(all);
-    };
-    all.push(String::from_str(alloc, program.as_str())?)?;
-    for argument in arguments {
-        all.push(doubled(alloc, argument.as_str())?)?;
-    }
-    Ok(all)
-}
-
-// A text with `$$` for each `$`.
-fn doubled(alloc: Global, text: &str) -> Result<String, AllocError>
-    ensures { IfOk result (λ twice. string_bytes twice ≡ doubled text.now) }
-{
-    let mut twice = String::new(alloc);
-    for c in text.chars() {
-        if c == '$' {
-            twice.push_str("$$")?;
-        } else {
-            twice.push(c)?;
-        }
-    }
-    Ok(twice)
 }

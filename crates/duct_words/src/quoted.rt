@@ -1,7 +1,7 @@
 //! The text of some words.
 ghost use Rattle.std.specs.Prelude.{◌≡◌, ◌++◌, map, string_bytes, IfOk, OnOk};
 ghost use Rattle.std.specs.List.{list_all};
-ghost use Rattle.duct_words.specs.Quote.{has_no_quotes, is_bare_byte, is_reserved, quote_of, quoted};
+ghost use Rattle.duct_words.specs.Quote.{has_no_quotes, is_bare_byte, is_marked, is_reserved, quote_of, quoted};
 ghost use Rattle.duct_words.specs.Split.{split_of, word};
 
 use crate::kind::is_plain;
@@ -11,8 +11,11 @@ use std::convert::AsStr;
 /// Returns a text that a POSIX shell and [`split`](crate::split) read as these words, with a space
 /// between two. A word stands as it is where it has only letters and digits of ASCII and
 /// `@%+:,./-_`, or a `=` that isn't in the first word, and where it isn't the first word and one
-/// that a shell obeys there, as `if` and bash's `time`. Else it stands in single quotes, with
-/// `'\''` for each single quote in it. The empty word is `''`. Fails only at an allocation failure.
+/// that a shell obeys there, as `if`, bash's `time`, and what begins with `-`, `+` or `%`. Else it
+/// stands in single quotes, with `'\''` for each single quote in it. The empty word is `''`. Fails
+/// only at an allocation failure.
+///
+/// bash takes a first word that begins with `%` for a job even in quotes: put `env` before it.
 ///
 /// Example: `quote(alloc, &["grep", "a b"])?` is `grep 'a b'`.
 #[tactic(auto, using(crate::proofs::RoundTrip::round_trip))]
@@ -65,7 +68,7 @@ pub(crate) fn push_word(text: &mut String, word: &str, is_first: bool) -> Result
 fn is_bare(word: &str, is_first: bool) -> bool
     ensures { result ≡ has_no_quotes is_first word.now }
 {
-    !(is_first && is_reserved(word)) && has_bare_bytes(word, is_first)
+    !(is_first && (is_marked(word) || is_reserved(word))) && has_bare_bytes(word, is_first)
 }
 
 // Whether no byte of a word needs quotes.
@@ -74,6 +77,13 @@ fn has_bare_bytes(word: &str, is_first: bool) -> bool
 {
     word.bytes()
         .all(|b| is_plain(char::from(b)) || b == b'=' && !is_first)
+}
+
+// Whether a word begins as an option of `sh` does, or as a job.
+fn is_marked(word: &str) -> bool
+    ensures { result ≡ is_marked word.now }
+{
+    matches!(word.as_bytes(), [b'-' | b'+' | b'%', ..])
 }
 
 // Whether a shell obeys a word as the first of its command.

@@ -3,8 +3,10 @@ ghost use Rattle.std.specs.Prelude.{◌≡◌, ◌∷◌, ◌++◌, [], ◌≤�
 ghost use Rattle.std.specs.Io.{WritesAtMost};
 ghost use Rattle.std.specs.Io.KnownBytes.{Appends, Keeps, WriteAppends};
 ghost use Rattle.std.specs.List.{starts_with};
-ghost use Rattle.duct_words.specs.Hidden.{Hides, IsHeld, Passes, hidden, is_begun, longest};
+ghost use Rattle.duct_base.specs.Transfer.{AppendsFront};
+ghost use Rattle.duct_words.specs.Hidden.{Hides, IsHeld, Passes, PassesFront, hidden, is_begun, longest};
 
+use duct_base::watched::Watched;
 use std::alloc::{AllocError, Global};
 use std::convert::AsStr;
 use std::io;
@@ -52,27 +54,29 @@ impl<T: AsStr, W: Write> Redacted<'_, T, W> {
     /// Writes what is held back. A secret that has only begun is written as it is. Nothing is held
     /// back then, and the writer may go on.
     ///
-    /// Fails with an error of the writer below, which may have got a part, and with `OutOfMemory`
-    /// at an allocation failure. The same is then still held back.
+    /// Fails with an error of the writer below, which may have got a front of it, and with
+    /// `OutOfMemory` at an allocation failure. The same is then still held back.
     ///
     /// Example: `log.finish()?`
     pub fn finish(&mut self) -> io::Result<()>
         ensures secrets { self.new.secrets.now ≡ self.old.secrets.now }
         ensures ok { OnOk result (Appends (W.contents self.old.writer) (W.contents self.new.writer)
             (hidden (map T.text self.old.secrets.now) self.old.held.items)) }
+        ensures front { AppendsFront (W.contents self.old.writer) (W.contents self.new.writer)
+            (hidden (map T.text self.old.secrets.now) self.old.held.items) }
         ensures held { OnOk result (self.new.held.items ≡ []) }
         ensures err { OnErr result (self.new.held.items ≡ self.old.held.items) }
     {
-        let mut shown = Vec::new(self.alloc);
-        let _ = push_hidden(&mut shown, self.secrets, self.held.as_slice(), true)?;
-        self.writer.write_all(shown.as_slice())?;
+        let mut all = Vec::new(self.alloc);
+        let _ = push_hidden(&mut all, self.secrets, self.held.as_slice(), true)?;
+        write_front(&mut self.writer, all.as_slice())?;
         self.held.clear();
         Ok(())
     }
 }
 
 /// Each write takes all bytes. One that fails takes none, and leaves what is held back as it was;
-/// the writer below may have got a part of what it was to get.
+/// the writer below may have got a front of what it was to get, in which secrets are hidden.
 impl<T: AsStr, W: Write> Write for Redacted<'_, T, W> {
     fn write(&mut self, buf: &[u8]) -> io::Result<usize>
         ensures bound { WritesAtMost result buf.now }
@@ -81,6 +85,9 @@ impl<T: AsStr, W: Write> Write for Redacted<'_, T, W> {
         ensures ok { OnOk result (Passes (map T.text self.old.secrets.now)
             (W.contents self.old.writer) (W.contents self.new.writer)
             self.old.held.items buf.now self.new.held.items) }
+        ensures front { PassesFront (map T.text self.old.secrets.now)
+            (W.contents self.old.writer) (W.contents self.new.writer)
+            self.old.held.items buf.now }
         ensures err { OnErr result (self.new.held.items ≡ self.old.held.items) }
         ensures secrets { self.new.secrets.now ≡ self.old.secrets.now }
     {
@@ -91,7 +98,7 @@ impl<T: AsStr, W: Write> Write for Redacted<'_, T, W> {
         let rest = push_hidden(&mut shown, self.secrets, bytes.as_slice(), false)?;
         let mut held = Vec::new(self.alloc);
         held.extend_from_slice(rest)?;
-        self.writer.write_all(shown.as_slice())?;
+        write_front(&mut self.writer, shown.as_slice())?;
         self.held = held;
         Ok(buf.len())
     }
@@ -104,6 +111,20 @@ impl<T: AsStr, W: Write> Write for Redacted<'_, T, W> {
     {
         self.writer.flush()
     }
+}
+
+// Writes all of these bytes, in order. Where it fails, it wrote a front of them.
+fn write_front<W: Write>(writer: &mut W, bytes: &[u8]) -> io::Result<()>
+    ensures ok { OnOk result (Appends (W.contents writer.old) (W.contents writer.new) bytes.now) }
+    ensures front { AppendsFront (W.contents writer.old) (W.contents writer.new) bytes.now }
+{
+    let mut watched = Watched::new(&mut *writer);
+    let mut rest = bytes;
+    while !rest.is_empty() {
+        let taken = watched.write(rest)?;
+        rest = &rest[taken..];
+    }
+    Ok(())
 }
 
 // Adds bytes with the secrets hidden, and returns the rest of them, which may be the beginning of a

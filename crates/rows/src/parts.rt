@@ -9,7 +9,7 @@ use rows_table::{Strangers, Table, TableError, Writing, first_word};
 use std::alloc::Global;
 
 /// The keys of the lines that set something up.
-const SET: &str = "shape captured events bytes expression arguments text";
+const SET: &str = "shape captured events bytes expression arguments text secrets pieces";
 
 /// The table of parts.
 #[derive(Drop)]
@@ -46,7 +46,8 @@ impl<'t> Parts<'t> {
             (call @ ("fed" | "drained"), script) => transfers::push(text, self, call, script),
             ("shows", _) => self.push_shown(text, usize::MAX),
             ("first", _) => self.push_shown(text, 1),
-            ("tokens" | "quoted" | "shell", _) => words::push(text, self, key),
+            ("hidden", script) => transfers::push_hidden(text, self, script),
+            ("tokens" | "variables" | "quoted" | "shell", _) => words::push(text, self, key),
             ("over", place) => words::push_placed(text, self, place),
             ("drawn", _) => plans::push_drawn(text, self),
             ("planned", _) => plans::push_planned(text, self),

@@ -1,7 +1,9 @@
-//! Feeds and drains over a stream that follows the words of a script.
+//! Feeds, drains and writers that hide secrets, over a stream that follows the words of a script.
 use crate::parts::Parts;
+use duct::Error;
 use duct_base::system::{Fault, Kind};
 use duct_base::transfer::{drain, feed};
+use duct_words::Redacted;
 use rows_table::{TableError, error_kind, first_word};
 use std::alloc::{AllocError, Global};
 use std::io::{self, ErrorKind, Read, Write};
@@ -47,6 +49,33 @@ fn push_moved(
     match str::from_utf8(moved) {
         Ok(few) if few.len() <= 10 => Ok(text.push_str(few)?),
         _ => Ok(write!(text, "{} bytes", moved.len())?),
+    }
+}
+
+/// Adds the results of writes of the pieces of a row, and of the end, by a writer that hides the
+/// secrets of the row, and what the writer below got.
+pub fn push_hidden(text: &mut String, row: &Parts, script: &str) -> Result<(), TableError> {
+    let secrets: Vec<&str> = row.text("secrets").split(' ').collect(row.alloc)?;
+    let below = WordStream {
+        script,
+        taken: Vec::new(row.alloc),
+        left: &[],
+    };
+    let mut log = Redacted::new(row.alloc, secrets.as_slice(), below);
+    for piece in row.text("pieces").split('|') {
+        push_result(text, log.write(piece.as_bytes()).err())?;
+    }
+    push_result(text, log.finish().err())?;
+    let got = str::from_utf8(log.writer.taken.as_slice()).unwrap_or("");
+    Ok(write!(text, "{got:?}")?)
+}
+
+/// Adds the kind of an error, or `Ok` if there is none.
+fn push_result(text: &mut String, error: Option<io::Error>) -> Result<(), TableError> {
+    match error.map(|error| error.kind()) {
+        None => Ok(text.push_str("Ok ")?),
+        Some(ErrorKind::OutOfMemory) => Err(TableError::Error(Error::Memory)),
+        Some(kind) => Ok(write!(text, "{kind:?} ")?),
     }
 }
 

@@ -1,7 +1,10 @@
-//! The tokens of texts of a shell, and texts of words and of expressions.
+//! The tokens and the variables of texts of a shell, and texts of words and of expressions.
 use crate::parts::Parts;
 use duct::{Error, Stream};
-use duct_words::{Place, ShellTextError, SplitError, Token, over, quote, shell_text, split};
+use duct_words::{
+    Place, ShellTextError, SplitError, Token, VariablesError, over, quote, shell_text, split,
+    variables,
+};
 use rows_table::{TableError, arguments, first_word, written};
 use std::alloc::{AllocError, Global};
 
@@ -9,6 +12,7 @@ use std::alloc::{AllocError, Global};
 pub fn push(text: &mut String, row: &Parts, key: &str) -> Result<(), TableError> {
     match key {
         "tokens" => push_tokens(text, row),
+        "variables" => push_variables(text, row),
         "quoted" => {
             let words = arguments(row.alloc, row.text("arguments"))?;
             let quoted = quote(row.alloc, words.as_slice())?;
@@ -18,13 +22,30 @@ pub fn push(text: &mut String, row: &Parts, key: &str) -> Result<(), TableError>
     }
 }
 
+/// Returns the text of a row, with its line ends and tabs.
+fn lines(row: &Parts) -> Result<String, AllocError> {
+    let text = row.text("text").replace(row.alloc, "␤", "\n")?;
+    let text = text.as_str().replace(row.alloc, "␍", "\r")?;
+    text.as_str().replace(row.alloc, "␉", "\t")
+}
+
+/// Adds the variables of the text of a row, or why it has none.
+fn push_variables(text: &mut String, row: &Parts) -> Result<(), TableError> {
+    match variables(row.alloc, lines(row)?.as_str()) {
+        Ok(pairs) => {
+            for (name, value) in &pairs {
+                write!(text, "{name}={value:?} ")?;
+            }
+        }
+        Err(VariablesError::Memory) => return Err(TableError::Error(Error::Memory)),
+        Err(error) => write!(text, "{error}")?,
+    }
+    Ok(())
+}
+
 /// Adds the tokens of the text of a row, or why it has none.
 fn push_tokens(text: &mut String, row: &Parts) -> Result<(), TableError> {
-    let lines = row.text("text").replace(row.alloc, "␤", "\n")?;
-    match split(
-        row.alloc,
-        lines.as_str().replace(row.alloc, "␉", "\t")?.as_str(),
-    ) {
+    match split(row.alloc, lines(row)?.as_str()) {
         Ok(tokens) => {
             for token in &tokens {
                 match token {
@@ -67,8 +88,6 @@ fn placed(alloc: Global, place: &str, words: &[String]) -> Result<Vec<String>, A
     match first_word(place) {
         ("ssh", machine) => over(alloc, &Place::Ssh(machine), words),
         ("srun", "") => over(alloc, &Place::Srun, words),
-        ("docker", image) => over(alloc, &Place::Docker(image), words),
-        ("systemd-run", "") => over(alloc, &Place::SystemdRun, words),
         _ => {
             let before: Vec<&str> = place.split(' ').collect(alloc)?;
             over(alloc, &Place::Behind(before.as_slice()), words)
