@@ -1,5 +1,5 @@
 -- Tasks of which one is changed, or one after the other.
-use Rattle.std.proofs.Common.{◌≡◌, ◌+◌, ◌<◌, ◌≤◌, ap, subst, arith, refl, ℕ, zero, suc, Bool, ◌||◌, true, false, List, [], ◌∷◌, length, get_or, set, sum_by}
+use Rattle.std.proofs.Common.{◌≡◌, ◌+◌, ◌<◌, ◌≤◌, ap, subst, arith, refl, ℕ, zero, suc, Bool, ◌||◌, if◌then◌else◌, true, false, List, [], ◌∷◌, length, get_or, set, sum_by}
 use Rattle.duct_tasks.proofs.Common.{AllZip, get_or-le-sum_by, sum_by-set}
 
 pub changed : {T : Type 0} (f : T → ℕ) (before after : T) (at : ℕ) (tasks : List T)
@@ -18,6 +18,18 @@ pub either : {P : Type 0} (first second : Bool) → (first ≡ true → P) → (
     || second ≡ true → P
 either true second one other is = one refl
 either false second one other is = other is
+
+-- what follows for each test counts no less
+pub no_less : (first second : Bool) → (first ≡ true → second ≡ true)
+    → (if first then 1 else 0) ≤ (if second then 1 else 0)
+no_less false second on = omega arith
+no_less true true on = omega arith
+no_less true false on = absurd (let is = on refl in cc)
+
+-- two tests of which none holds
+pub neither : (first second : Bool) → first || second ≡ false → (first ≡ false) × (second ≡ false)
+neither true second none = absurd (cc)
+neither false second none = (refl, none)
 
 -- the first so many of these have changed so, and the others are as before
 abbrev pub ChangedBelow : {T : Type 0} → (T → T → Type 0) → ℕ → List T → List T → Type 0

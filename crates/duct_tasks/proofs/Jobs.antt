@@ -1,5 +1,5 @@
 -- What runs of a task, and where each turn leaves it.
-use Rattle.std.proofs.Common.{◌≡◌, ◌+◌, ◌∙◌, refl, ap, sym, subst, arith, ℕ, ℤ, pos, Bool, true, false, List, [], ◌∷◌, ◌++◌, drop, length, length-append, map, min, suc, take, zero, Ok, Err, Some, None, IsOk, IsSome, IfSome, Option, Result, is_some}
+use Rattle.std.proofs.Common.{◌≡◌, ◌+◌, ◌∙◌, ◌⊎◌, inl, inr, refl, ap, sym, subst, arith, ℕ, ℤ, pos, Bool, true, false, List, [], ◌∷◌, ◌++◌, drop, length, length-append, map, min, suc, take, zero, Ok, Err, Some, None, IsOk, IsSome, IfSome, Option, Result, is_some}
 use Rattle.std.specs.Duration.{as_nanos, max_nanos}
 use Rattle.std.specs.declared.alloc.Global.{Global}
 use Rattle.std.specs.declared.time.Duration.{Duration}
@@ -19,12 +19,11 @@ use Rattle.duct_tasks.proofs.Staying.{alike}
 use Rattle.duct_tasks.specs.Groups.{OrdersAll, SignalsGroups, Tries, leaders}
 use Rattle.duct_status.specs.ShapeView.{command, command_count, input, pipe, unchecked}
 use Rattle.duct_tasks.specs.Statuses.{CommandView, commands_in, command_view, with_reports, words_of}
-use Rattle.duct_tasks.specs.Tasks.{AreNoted, AreNotedAt, Comes, HasClosed, HasCome, IsAtMade, IsAtStep, IsDue, IsDueAt, IsDueTask, IsEndOf, IsJob, IsStopped, IsMove, Launch, Refusal, Start, TaskGoes, left_by, shown_by, starts_of, given_by}
+use Rattle.duct_tasks.specs.Tasks.{AreNoted, AreNotedAt, Comes, EndedAlone, HasCome, HasReadOn, IsAtMade, IsAtStep, IsDue, IsDueAt, IsDueTask, IsEndOf, IsJob, IsOverAt, IsStopped, IsMove, Launch, ReadsUntil, Refusal, Start, TaskGoes, has_failed_at, is_failure, left_by, shown_by, starts_of, given_by}
 use Rattle.duct_tasks.specs.Tasks.Move.{signals}
 use Rattle.duct_tasks.specs.Until.{HasPassed, HasReached, StoresEnd, UnlessEnded}
 use Rattle.duct_tasks.specs.declared.finished.Finished.{Finished}
 use Rattle.duct_tasks.specs.declared.finished.TaskEnd.{TaskEnd}
-use Rattle.duct_tasks.specs.declared.finished.TaskEnd.TheVariants as end
 use Rattle.duct_tasks.specs.declared.job.Job.{Job}
 use Rattle.duct_tasks.specs.declared.job.Step.{Step}
 use Rattle.duct_tasks.specs.declared.job.Step.TheVariants as step
@@ -102,7 +101,8 @@ due_step : {P Q : Type 0} → (P → Q) → (s : Step) → IsDueAt P s → IsDue
 due_step on step.Runs due = tt
 due_step on (step.Asked last) due = on due
 due_step on (step.Killed late last) due = on due
-due_step on (step.Over ended) due = tt
+due_step on (step.Failed e last) due = tt
+due_step on (step.Over output) due = tt
 
 -- what is due for one reason is due for what follows from it
 pub due_from : {T L : Type 0} {P Q : Type 0} → (P → Q) → (task : Task T L) → IsDueTask P task
@@ -122,20 +122,37 @@ length_commands (pipe left right) = omega (
 length_commands (input inner) = length_commands inner
 length_commands (unchecked inner) = length_commands inner
 
--- what reads no more because of no error has come to EOF
-pub ok_true : (reads : Result Bool LinesError) → IsOk reads → (reads ≡ Ok false → ⊥)
-    → reads ≡ Ok true
-ok_true (Ok true) ok closed = refl
-ok_true (Ok false) ok closed = absurd (closed refl)
-ok_true (Err e) ok closed = absurd (cc)
+-- what is over was read to its end, or has failed and a second has passed
+pub read_of : (shows : Duration → Type 0) (s : Step) (came : TaskEnd) (reads : Result Bool LinesError)
+    (ends : Type 0) → IsEndOf s came → ReadsUntil shows s reads → IsOverAt shows s reads → IsOk reads
+    → (reads ≡ Ok true → ends) → ends ⊎ ((is_failure came ≡ true) × HasReadOn shows)
+read_of shows s came (Ok true) ends is until over ok at = inl (at refl)
+read_of shows s came (Err e) ends is until over ok at = absurd (cc)
+read_of shows step.Runs came (Ok false) ends is until over ok at = absurd is
+read_of shows (step.Asked last) came (Ok false) ends is until over ok at = absurd is
+read_of shows (step.Killed late last) came (Ok false) ends is until over ok at =
+    inr (ap (λ (x : TaskEnd). is_failure x) is, (last, until, over refl))
+read_of shows (step.Failed e last) came (Ok false) ends is until over ok at =
+    inr (ap (λ (x : TaskEnd). is_failure x) is, (last, until, over refl))
+read_of shows (step.Over output) came (Ok false) ends is until over ok at = absurd (until refl)
 
--- where it has ended by itself, its streams are read no more
-pub closed_of : (s : Step) (came : TaskEnd) (reads : Result Bool LinesError) (ended : End)
-    → IsEndOf s came → came ≡ end.Ended ended → HasClosed s reads → reads ≡ Ok false → ⊥
-closed_of step.Runs came reads ended is end closed = absurd is
-closed_of (step.Asked last) came reads ended is end closed = absurd is
-closed_of (step.Killed late last) came reads ended is end closed = absurd (cc)
-closed_of (step.Over over) came reads ended is end closed = closed
+-- what has failed ends with a failure
+pub failed_end : (s : Step) (came : TaskEnd) → IsEndOf s came → has_failed_at s ≡ true
+    → is_failure came ≡ true
+failed_end step.Runs came is failed = absurd is
+failed_end (step.Asked last) came is failed = absurd is
+failed_end (step.Killed late last) came is failed = ap (λ (x : TaskEnd). is_failure x) is
+failed_end (step.Failed e last) came is failed = ap (λ (x : TaskEnd). is_failure x) is
+failed_end (step.Over output) came is failed = absurd (cc)
+
+-- what is over was killed, or has ended
+pub stopped_of : (shows : Duration → Type 0) (s : Step) (reads : Result Bool LinesError)
+    → IsOverAt shows s reads → IsStopped s
+stopped_of shows step.Runs reads over = over
+stopped_of shows (step.Asked last) reads over = over
+stopped_of shows (step.Killed late last) reads over = tt
+stopped_of shows (step.Failed e last) reads over = tt
+stopped_of shows (step.Over output) reads over = tt
 
 module _ {S E C F D : Type 0} (views : SystemViews S E C F D (Unit {0}) Bytes) {R : Type 0}
     (remaining : R → Option (List ℕ)) (shows : Duration → Type 0) (grace : Duration)
@@ -148,7 +165,9 @@ module _ {S E C F D : Type 0} (views : SystemViews S E C F D (Unit {0}) Bytes) {
   come_of (step.Asked last) came running is at = absurd is
   come_of (step.Killed late last) came running is at =
       subst (λ (x : TaskEnd). HasCome views remaining shows grace due x running) (sym is) at
-  come_of (step.Over ended) came running is at =
+  come_of (step.Failed e last) came running is at =
+      subst (λ (x : TaskEnd). HasCome views remaining shows grace due x running) (sym is) at
+  come_of (step.Over output) came running is at =
       subst (λ (x : TaskEnd). HasCome views remaining shows grace due x running) (sym is) at
 
 module _ {S E C F D : Type 0} (views : SystemViews S E C F D (Unit {0}) Bytes) where
@@ -159,7 +178,8 @@ module _ {S E C F D : Type 0} (views : SystemViews S E C F D (Unit {0}) Bytes) w
   noted_of step.Runs words running commands is noted = absurd is
   noted_of (step.Asked last) words running commands is noted = absurd is
   noted_of (step.Killed late last) words running commands is noted = noted
-  noted_of (step.Over ended) words running commands is noted = noted
+  noted_of (step.Failed e last) words running commands is noted = noted
+  noted_of (step.Over output) words running commands is noted = noted
 
   -- what runs alike has as many children
   pub same_count : (before after : RunningView C F D) → RunsAlike views before after
@@ -329,26 +349,31 @@ module _ {S E C F D : Type 0} (views : SystemViews S E C F D (Unit {0}) Bytes) {
             (sym runs) tt;
       }
 
-  -- it had ended when it was polled
-  pub over_on : (job : Job (RunningView C F D) R) (polled : RunningView C F D) (commands : Vec CommandStatus Global)
-      (end : End) → job.step ≡ step.Runs → PolledOnce views job.running polled
+  -- it had ended when it was polled, and is at this step then
+  pub over_on : (job : Job (RunningView C F D) R) (polled : RunningView C F D)
+      (commands : Vec CommandStatus Global) (end : End) (s : Step)
+      → (EndedAlone views end polled
+      → IsAtStep views remaining (shown_by may_show tasks) tasks.grace Due s polled)
+      → ((words : List (List (List ℕ))) (launch : Launch C F D R)
+      → AreNoted views words launch.running commands.items
+      → AreNotedAt views s words launch.running commands.items)
+      → job.step ≡ step.Runs → PolledOnce views job.running polled
       → StaysSame views job.running polled → StoresEnd views (Some end) polled
       → map command_view commands.items ≡ with_reports (map words_of job.commands.items)
       (stored_in views.child views.feed views.drain polled).commands
-      → JobOn job
-      (record job { running = polled; commands = commands; step = step.Over end })
-  over_on job polled commands end runs polls same stores noted words launch is =
+      → JobOn job (record job { running = polled; commands = commands; step = s })
+  over_on job polled commands end s to_step to_noted runs polls same stores noted words launch is =
       let at = subst (λ (s : Step). IsAtStep views remaining (shown_by may_show tasks) tasks.grace Due
       s job.running) runs is.at_step in
       let reports = (stored_in views.child views.feed views.drain polled).commands in
       let seen = alike views job.running polled same ∙ is.alike in
       record {
         alike = seen;
-        at_step = (orders_left views false job.running polled polls at, stores);
+        at_step = to_step (orders_left views false job.running polled polls at, stores);
         out = is.out;
         err = is.err;
         words_are = noted_words job.commands.items commands.items reports noted ∙ is.words_are;
-        noted = (
+        noted = to_noted words launch (
           polled,
           seen,
           noted ∙ ap (λ (ws : List (List (List ℕ))). with_reports ws reports) is.words_are,
@@ -457,7 +482,8 @@ module _ {S E C F D : Type 0} (views : SystemViews S E C F D (Unit {0}) Bytes) {
   due_at step.Runs due = tt
   due_at (step.Asked last) due = due
   due_at (step.Killed late last) due = due
-  due_at (step.Over ended) due = tt
+  due_at (step.Failed e last) due = tt
+  due_at (step.Over output) due = tt
 
   -- it is over
   pub ends_on : (job : Job (RunningView C F D) R) (finished : Finished) (sys : S) (had has : ℕ)

@@ -59,7 +59,8 @@ module _ {S E C F D : Type 0} (views : SystemViews S E C F D (Unit {0}) Bytes) {
   step_on step.Runs running is = is
   step_on (step.Asked last) running (due, sent, ends) = (on due, sent, ends)
   step_on (step.Killed late last) running (due, killed) = (on due, killed)
-  step_on (step.Over ended) running is = is
+  step_on (step.Failed e last) running is = is
+  step_on (step.Over output) running is = is
 
   come_on : (came : TaskEnd) (running : RunningView C F D) → HasCome views remaining shows grace P came running
       → HasCome views remaining shows grace Q came running

@@ -1,5 +1,5 @@
 -- Tasks of which only so many run at once: what is done for them, and what comes of each.
-use Rattle.std.specs.Prelude.{ℕ, ℤ, ◌+◌, ◌-◌, ◌≡◌, ◌⊎◌, Bool, true, false, if◌then◌else◌, List, [], ◌∷◌, ◌++◌, length, map, take, min, is_some, sum_by, All, Contains, Ok, Err, Some, None, Option, Result}
+use Rattle.std.specs.Prelude.{ℕ, ℤ, ◌+◌, ◌-◌, ◌^◌, ◌≡◌, ◌⊎◌, Bool, true, false, if◌then◌else◌, List, [], ◌∷◌, ◌++◌, length, map, take, min, is_some, sum_by, All, Contains, IfSome, Ok, Err, Some, None, Option, Result}
 use Rattle.std.specs.Duration.{as_nanos, max_nanos}
 use Rattle.std.specs.Io.KnownBytes.{Consumes, IsAtEnd}
 use Rattle.std.specs.List.{AllZip, FoldsTo}
@@ -30,7 +30,7 @@ use Rattle.duct_tasks.specs.LinesRun.{OpenFails, Pipes}
 use Rattle.duct_tasks.specs.Statuses.{command_view, commands_in, with_reports, words_of}
 use Rattle.duct_tasks.specs.Streams.{ReadsBoth}
 use Rattle.duct_tasks.specs.Turns.{HasOrders, TaskTries, WereSignalled, gives}
-use Rattle.duct_tasks.specs.Until.{End, HasLapsed, HasPassed, RunsAlike, StoresEnd, UnlessEnded}
+use Rattle.duct_tasks.specs.Until.{End, HasLapsed, HasPassed, HasReached, RunsAlike, StoresEnd, UnlessEnded}
 use Rattle.duct_tasks.specs.declared.finished.Finished.{Finished}
 use Rattle.duct_tasks.specs.declared.finished.TaskEnd.{TaskEnd}
 use Rattle.duct_tasks.specs.declared.finished.TaskEnd.TheVariants as end
@@ -56,6 +56,14 @@ is_failure (end.Late late) = true
 abbrev pub has_failed : Finished → Bool
 has_failed finished = if is_failure finished.end then true else is_some finished.unread
 
+-- the same of what runs: its commands have ended with a failure, or were killed
+abbrev pub has_failed_at : Step → Bool
+has_failed_at step.Runs = false
+has_failed_at (step.Asked last) = false
+has_failed_at (step.Killed late last) = true
+has_failed_at (step.Failed e last) = true
+has_failed_at (step.Over output) = false
+
 -- how many children of what came to this were given to a pool
 abbrev pub left_by : Finished → ℕ
 left_by finished = if has_failed finished then length finished.commands.items else 0
@@ -73,7 +81,7 @@ module _ {R L : Type 0} where
 
   -- 1 for a task that has failed
   abbrev pub failed_of : Task R L → ℕ
-  failed_of (Running job) = 0
+  failed_of (Running job) = if has_failed_at job.step then 1 else 0
   failed_of (Ended finished) = if has_failed finished then 1 else 0
 
   -- how many children a task that has ended gave to a pool
@@ -196,19 +204,39 @@ IsPast shows None = ⊥
 abbrev pub IsDue : (Duration → Type 0) → Option Duration → Bool → Type 0
 IsDue shows limit stopped = IsPast shows limit ⊎ (stopped ≡ true)
 
+-- this is a second after a moment of the clock, or the greatest moment
+abbrev pub IsLastRead : (Duration → Type 0) → Duration → Type 0
+IsLastRead shows last =
+    (moment : Duration) × shows moment
+    × (as_nanos last ≡ min (as_nanos moment + 10 ^ 9) max_nanos)
+
 -- it was killed, or has ended
 abbrev pub IsStopped : Step → Type 0
 IsStopped step.Runs = ⊥
 IsStopped (step.Asked last) = ⊥
 IsStopped (step.Killed late last) = Unit {0}
-IsStopped (step.Over ended) = Unit {0}
+IsStopped (step.Failed e last) = Unit {0}
+IsStopped (step.Over output) = Unit {0}
+
+-- the same, and its streams are read no more, or their last moment has come
+abbrev pub IsOverAt : (Duration → Type 0) → Step → Result Bool LinesError → Type 0
+IsOverAt shows step.Runs reads = ⊥
+IsOverAt shows (step.Asked last) reads = ⊥
+IsOverAt shows (step.Killed late last) reads = reads ≡ Ok false → HasReached shows (as_nanos last)
+IsOverAt shows (step.Failed e last) reads = reads ≡ Ok false → HasReached shows (as_nanos last)
+IsOverAt shows (step.Over output) reads = Unit {0}
+
+-- the same of what runs
+abbrev pub IsOver : {T L : Type 0} → (Duration → Type 0) → Job T L → Type 0
+IsOver shows job = IsOverAt shows job.step job.streams.over
 
 -- it was sent signal 15, or has ended
 abbrev pub WasAsked : Step → Type 0
 WasAsked step.Runs = ⊥
 WasAsked (step.Asked last) = Unit {0}
 WasAsked (step.Killed late last) = Unit {0}
-WasAsked (step.Over ended) = Unit {0}
+WasAsked (step.Failed e last) = Unit {0}
+WasAsked (step.Over output) = Unit {0}
 
 -- the same of a task
 abbrev pub WasAskedTask : {R L : Type 0} → Task R L → Type 0
@@ -220,21 +248,25 @@ abbrev pub IsEndOf : Step → TaskEnd → Type 0
 IsEndOf step.Runs came = ⊥
 IsEndOf (step.Asked last) came = ⊥
 IsEndOf (step.Killed late last) came = came ≡ end.Late late
-IsEndOf (step.Over ended) came = came ≡ end.Ended ended
+IsEndOf (step.Failed e last) came = came ≡ end.Ended (Err e)
+IsEndOf (step.Over output) came = came ≡ end.Ended (Ok output)
 
--- where it has ended, its streams are read no more
-abbrev pub HasClosed : Step → Result Bool LinesError → Type 0
-HasClosed step.Runs reads = Unit {0}
-HasClosed (step.Asked last) reads = Unit {0}
-HasClosed (step.Killed late last) reads = Unit {0}
-HasClosed (step.Over ended) reads = reads ≡ Ok false → ⊥
+-- where it has ended with no failure, its streams are read no more; after a failure they are read
+-- until a second later
+abbrev pub ReadsUntil : (Duration → Type 0) → Step → Result Bool LinesError → Type 0
+ReadsUntil shows step.Runs reads = Unit {0}
+ReadsUntil shows (step.Asked last) reads = Unit {0}
+ReadsUntil shows (step.Killed late last) reads = IsLastRead shows last
+ReadsUntil shows (step.Failed e last) reads = IsLastRead shows last
+ReadsUntil shows (step.Over output) reads = reads ≡ Ok false → ⊥
 
 -- orders were given only where this holds
 abbrev pub IsDueAt : Type 0 → Step → Type 0
 IsDueAt due step.Runs = Unit {0}
 IsDueAt due (step.Asked last) = due
 IsDueAt due (step.Killed late last) = due
-IsDueAt due (step.Over ended) = Unit {0}
+IsDueAt due (step.Failed e last) = Unit {0}
+IsDueAt due (step.Over output) = Unit {0}
 
 -- the same of a task
 abbrev pub IsDueTask : {R L : Type 0} → Type 0 → Task R L → Type 0
@@ -255,18 +287,33 @@ module _ {S E C F D : Type 0} (views : SystemViews S E C F D (Unit {0}) Bytes) w
   AreNotedAt step.Runs words running commands = Unit {0}
   AreNotedAt (step.Asked last) words running commands = AreNoted words running commands
   AreNotedAt (step.Killed late last) words running commands = AreNoted words running commands
-  AreNotedAt (step.Over ended) words running commands = AreNoted words running commands
+  AreNotedAt (step.Failed e last) words running commands = AreNoted words running commands
+  AreNotedAt (step.Over output) words running commands = AreNoted words running commands
 
--- the bytes of what came of a start are what its readers gave, and all of it where what was started
--- ended by itself and reading did not fail
-pub record HasRead {C F D R : Type 0} (remaining : R → Option (List ℕ)) (launch : Launch C F D R)
-    (finished : Finished) : Type 0 where
+  -- what the children and workers store is no failure: one runs, or they have ended well
+  abbrev pub HasNotFailed : RunningView C F D → Type 0
+  HasNotFailed running =
+      (ended : Option End) × StoresEnd views ended running
+      × IfSome ended (λ end. gives (Some end) ≡ false)
+
+  -- it had ended like this when it was polled, with no order before
+  abbrev pub EndedAlone : End → RunningView C F D → Type 0
+  EndedAlone ended running = HasOrders views false running × StoresEnd views (Some ended) running
+
+-- the clock may show a moment, and one that is a second later
+abbrev pub HasReadOn : (Duration → Type 0) → Type 0
+HasReadOn shows = (last : Duration) × IsLastRead shows last × HasReached shows (as_nanos last)
+
+-- the bytes of what came of a start are what its readers gave, and all of it unless reading has
+-- failed, or the task has and the clock may show a second more
+pub record HasRead {C F D R : Type 0} (remaining : R → Option (List ℕ)) (shows : Duration → Type 0)
+    (launch : Launch C F D R) (finished : Finished) : Type 0 where
   pub out_left : R
   pub err_left : R
   pub stdout : Consumes (remaining launch.out) (remaining out_left) finished.stdout.items
   pub stderr : Consumes (remaining launch.err) (remaining err_left) finished.stderr.items
-  pub whole : (ended : End) → finished.end ≡ end.Ended ended → finished.unread ≡ None
-      → IsAtEnd (remaining out_left) × IsAtEnd (remaining err_left)
+  pub whole : finished.unread ≡ None → (IsAtEnd (remaining out_left) × IsAtEnd (remaining err_left))
+      ⊎ ((is_failure finished.end ≡ true) × HasReadOn shows)
 
 module _ {S E C F D : Type 0} (views : SystemViews S E C F D (Unit {0}) Bytes) {R : Type 0}
     (remaining : R → Option (List ℕ)) (shows : Duration → Type 0) where
@@ -275,7 +322,7 @@ module _ {S E C F D : Type 0} (views : SystemViews S E C F D (Unit {0}) Bytes) {
     pub reads : ReadsBoth remaining job.streams
     pub began : shows job.began
     pub count : length job.commands.items ≡ length (numbers_of views job.running).children
-    pub closed : HasClosed job.step job.streams.over
+    pub until : ReadsUntil shows job.step job.streams.over
 
   -- the same of a task that runs
   abbrev pub IsReadyTask : Task (RunningView C F D) R → Type 0
@@ -310,13 +357,13 @@ module _ {S E C F D : Type 0} (views : SystemViews S E C F D (Unit {0}) Bytes) {
           × ((moment : Duration) × shows moment
           × (as_nanos last ≡ min (as_nanos moment + as_nanos grace) max_nanos))
       IsAtStep (step.Killed late last) running = due × WasKilled late running
-      IsAtStep (step.Over ended) running =
-          HasOrders views false running × StoresEnd views (Some ended) running
+      IsAtStep (step.Failed e last) running = EndedAlone views (Err e) running
+      IsAtStep (step.Over output) running = EndedAlone views (Ok output) running
 
       -- so it has ended, or was stopped
       abbrev pub HasCome : TaskEnd → RunningView C F D → Type 0
       HasCome (end.Refused e) running = ⊥
-      HasCome (end.Ended ended) running = IsAtStep (step.Over ended) running
+      HasCome (end.Ended ended) running = EndedAlone views ended running
       HasCome (end.Late late) running = due × WasKilled late running
 
       -- what runs, whose commands have these words, is what a start left
@@ -335,7 +382,7 @@ module _ {S E C F D : Type 0} (views : SystemViews S E C F D (Unit {0}) Bytes) {
         pub running : RunningView C F D
         pub alike : RunsAlike views launch.running running
         pub has_come : HasCome finished.end running
-        pub read : HasRead remaining launch finished
+        pub read : HasRead remaining shows launch finished
         pub noted : AreNoted views words launch.running finished.commands.items
         pub took : (from : Duration) × (to : Duration) × shows from × shows to
             × (as_nanos finished.took ≡ as_nanos to - as_nanos from)

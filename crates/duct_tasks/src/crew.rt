@@ -30,6 +30,7 @@ pub(crate) struct Crew<'t, E, H, C, R, L: Read> {
     pub ghost few: { running ≤ tasks.at_once },
     pub ghost runs: { running ≡ sum_by running_of started.items },
     pub ghost fails: { failed ≡ true → 0 < sum_by failed_of started.items },
+    pub ghost well: { failed ≡ false → sum_by failed_of started.items ≡ 0 },
     pub ghost stops: { stopped ≡ true → (failed ≡ true) × (tasks.at_failure ≡ Stop) },
     pub ghost room: { length tasks.all.now ≤ vec_capacity started },
     pub ghost within: { length started.items ≤ length tasks.all.now },

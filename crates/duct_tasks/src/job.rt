@@ -3,7 +3,7 @@ ghost use Rattle.std.specs.Prelude.{ℕ, ◌≡◌, Bool, true, false, length, I
 ghost use Rattle.std.specs.Duration.{as_nanos};
 ghost use Rattle.duct_base.specs.Pool.{counted};
 ghost use Rattle.duct_running.specs.NumbersView.{numbers_of};
-ghost use Rattle.duct_tasks.specs.Tasks.{Comes, FailsToStart, GoesIfDue, IsDue, IsEndOf, IsReady, IsStopped, MayStop, StartsTask, TaskGoes, WasAsked};
+ghost use Rattle.duct_tasks.specs.Tasks.{Comes, FailsToStart, GoesIfDue, HasNotFailed, IsDue, IsEndOf, IsLastRead, IsOver, IsReady, IsStopped, MayStop, StartsTask, TaskGoes, WasAsked, has_failed, has_failed_at};
 ghost use Rattle.duct_tasks.specs.Until.{HasReached, UnlessEnded};
 ghost use Rattle.duct_tasks.specs.declared.job.Came.TheVariants.{End};
 ghost use Rattle.duct_tasks.specs.declared.job.Step.TheVariants as step;
@@ -35,14 +35,16 @@ use std::time::Duration;
 /// How far what runs has come.
 #[derive(Drop)]
 pub(crate) enum Step {
-    /// It was given no order.
+    /// It was given no order, and has not failed.
     Runs,
     /// It was sent signal 15, and may run on until this moment.
     Asked(Duration),
     /// It was stopped like this, and its streams are read on until this moment.
     Killed(Late, Duration),
-    /// It has ended, and its streams too.
-    Over(Result<Arc<Output>, Error>),
+    /// It has ended with this failure, and its streams are read on until this moment.
+    Failed(Error, Duration),
+    /// It has ended with no failure, and its streams too.
+    Over(Arc<Output>),
 }
 
 /// What came of a turn.
@@ -60,7 +62,7 @@ pub(crate) struct Job<R, L: Read> {
     streams: BothLines<L>,
     commands: Vec<CommandStatus>,
     began: Duration,
-    step: Step,
+    pub step: Step,
 }
 
 /// Returns whether a poll has said how it ended, or this moment has come.
@@ -84,10 +86,18 @@ fn end_of(step: Step) -> TaskEnd
     ensures { IsEndOf step result }
 {
     match step {
-        Step::Over(end) => TaskEnd::Ended(end),
+        Step::Over(output) => TaskEnd::Ended(Ok(output)),
+        Step::Failed(error, _) => TaskEnd::Ended(Err(error)),
         Step::Killed(late, _) => TaskEnd::Late(late),
         Step::Runs | Step::Asked(_) => unreachable!(),
     }
+}
+
+// Returns the moment until which streams are read that don't come to EOF.
+fn last_read<C: Clock>(clock: &C) -> Duration
+    ensures { IsLastRead (C.may_show clock.now) result }
+{
+    clock.now().saturating_add(Duration::from_secs(LAST_READ))
 }
 
 impl<S: System> Job<Running<S>, S::Reader>
@@ -159,6 +169,7 @@ where
             C.may_show tasks.now stopped (state.Running self.old) (state.Running self.new)
             sys.old sys.new pool.old.given pool.new.given }
         ensures asked { WasAsked self.new.step }
+        ensures fails { has_failed_at self.new.step ≡ has_failed_at self.old.step }
     {
         if let Step::Runs = self.step {
             let _ended = ended(&mut self.running); // what has ended keeps its status
@@ -194,11 +205,13 @@ where
         ensures goes { GoesIfDue ⟦<S as Viewed>⟧.views S.may_read S.Reader.remaining H.allows
             H.refuses C.may_show tasks.now (state.Running self.old) (state.Running self.new)
             sys.old sys.new pool.old.given pool.new.given }
-        ensures over { result ≡ End → IsStopped self.new.step }
+        ensures over { result ≡ End → IsOver (C.may_show tasks.now.clock.now) self.new }
+        ensures fails { has_failed_at self.old.step ≡ true → has_failed_at self.new.step ≡ true }
     {
         let before = self.streams.count();
         self.streams.turn(rt, like.allocator(), each);
         if !self.go_on(rt, sys, pool, tasks, like) {
+            self.streams.give_up(each);
             return Came::End;
         }
         if before < self.streams.count() {
@@ -224,7 +237,8 @@ where
         ensures goes { GoesIfDue ⟦<S as Viewed>⟧.views S.may_read S.Reader.remaining H.allows
             H.refuses C.may_show tasks.now (state.Running self.old) (state.Running self.new)
             sys.old sys.new pool.old.given pool.new.given }
-        ensures over { result ≡ false → IsStopped self.new.step }
+        ensures over { result ≡ false → IsOver (C.may_show tasks.now.clock.now) self.new }
+        ensures fails { has_failed_at self.old.step ≡ true → has_failed_at self.new.step ≡ true }
     {
         match self.step {
             Step::Runs => self.run_on(rt, sys, pool, tasks, like),
@@ -232,13 +246,15 @@ where
                 self.lapse(rt, sys, pool, tasks, like, last);
                 true
             }
-            Step::Killed(_, last) => self.streams.go_on() && !is_over(tasks.clock, last),
+            Step::Killed(_, last) | Step::Failed(_, last) => {
+                self.streams.go_on() && !is_over(tasks.clock, last)
+            }
             Step::Over(_) => false,
         }
     }
 
-    // Polls what was given no order, once its streams are read, and asks it to end where it is
-    // late. Returns whether it goes on.
+    // Polls what was given no order, and asks it to end where it is late. It goes on until its
+    // streams are read, or a second longer where it has failed. Returns whether it does.
     fn run_on<H: Hook, C: Clock>(
         &mut self,
         rt: &impl Wait,
@@ -255,19 +271,23 @@ where
         ensures goes { GoesIfDue ⟦<S as Viewed>⟧.views S.may_read S.Reader.remaining H.allows
             H.refuses C.may_show tasks.now (state.Running self.old) (state.Running self.new)
             sys.old sys.new pool.old.given pool.new.given }
-        ensures over { result ≡ false → IsStopped self.new.step }
+        ensures over { result ≡ false → IsOver (C.may_show tasks.now.clock.now) self.new }
+        ensures notices { self.new.step ≡ step.Runs
+            → HasNotFailed ⟦<S as Viewed>⟧.views self.new.running }
     {
-        if self.streams.go_on() {
-            self.ask_if_late(rt, sys, pool, tasks, like);
-            return true;
-        }
+        let is_open = self.streams.go_on();
         match ended(&mut self.running) {
-            Some(end) => {
+            Some(Err(error)) => {
                 note(&mut self.commands, self.running.reports());
-                self.step = Step::Over(end);
+                self.step = Step::Failed(error, last_read(tasks.clock));
+                is_open
+            }
+            Some(Ok(output)) if !is_open => {
+                note(&mut self.commands, self.running.reports());
+                self.step = Step::Over(output);
                 false
             }
-            None => {
+            Some(Ok(_)) | None => {
                 self.ask_if_late(rt, sys, pool, tasks, like);
                 true
             }
@@ -290,6 +310,7 @@ where
         ensures goes { GoesIfDue ⟦<S as Viewed>⟧.views S.may_read S.Reader.remaining H.allows
             H.refuses C.may_show tasks.now (state.Running self.old) (state.Running self.new)
             sys.old sys.new pool.old.given pool.new.given }
+        ensures stays { self.new.step ≡ step.Runs → self.new.running ≡ self.old.running }
     {
         if tasks.are_late(self.began) {
             self.ask(rt, sys, pool, tasks, like);
@@ -318,23 +339,20 @@ where
         let ended = ended(&mut self.running);
         if has_lapsed(&ended, tasks.clock, last) {
             let killed = order_all(rt, sys, pool, like, Order::Kill, &mut self.running);
-            let last = tasks
-                .clock
-                .now()
-                .saturating_add(Duration::from_secs(LAST_READ));
-            self.step = Step::Killed(Late { ended, killed }, last);
+            self.step = Step::Killed(Late { ended, killed }, last_read(tasks.clock));
         }
     }
 
     /// Takes what came of what is over.
     pub fn finish<C: Clock>(&mut self, alloc: Global, clock: &C) -> Finished
-        requires over { IsStopped self.old.step }
+        requires over { IsOver (C.may_show clock.now) self.old }
         requires ready { IsReady ⟦<S as Viewed>⟧.views S.Reader.remaining (C.may_show clock.now)
             self.old }
         ensures came { (grace : Duration) (limit : Option Duration) (stopped : Bool)
             → Comes ⟦<S as Viewed>⟧.views S.Reader.remaining (C.may_show clock.now) grace
             (IsDue (C.may_show clock.now) limit stopped) self.old result }
         ensures running { self.new.running ≡ self.old.running }
+        ensures fails { has_failed_at self.old.step ≡ true → has_failed result ≡ true }
         ensures count { length result.commands.items
             ≡ length (numbers_of ⟦<S as Viewed>⟧.views self.old.running).children }
     {

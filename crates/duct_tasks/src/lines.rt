@@ -312,6 +312,18 @@ impl<R: Read + Send + Drop + 'static> BothLines<R> {
         }
     }
 
+    /// Hands on the last lines without a newline of streams that are read no more before EOF.
+    pub fn give_up<F: FnMut(Side, &[u8]) -> io::Result<()>>(&self, each: &mut F)
+        requires callable { F.IsAlwaysCallable each.old }
+        requires both { ReadsBoth R.remaining self.now }
+        ensures { F.IsAlwaysCallable each.new }
+    {
+        if self.go_on() {
+            let _ = self.out.hand_on_rest(Side::Out, each);
+            let _ = self.err.hand_on_rest(Side::Err, each);
+        }
+    }
+
     /// Reads both streams, as far as they come by this moment, and hands on their lines. It blocks
     /// until EOF, until the clock shows the moment, or until a read or the closure fails, after
     /// which nothing is read any more.

@@ -76,12 +76,13 @@ pub enum Progress<'a> {
 /// too, and never while as many run as may: a task runs until a poll has said how it ended and both
 /// streams came to EOF. Returns what came of those that were started, each in its place: of all,
 /// unless a failure ended the starts. A task fails where `Expression::run` would, where it can't be
-/// started, and where it is stopped.
+/// started, and where it is stopped. Its failure counts as soon as its commands have ended, and its
+/// streams are then read on until EOF, but no more than a second.
 ///
 /// A task that runs for longer than the limit is stopped, as are all where one has failed and
 /// `at_failure` says so: each of its commands that is not known to have ended is sent signal 15,
 /// and killed once the task has ended or the grace has, groups of commands that lead one as in
-/// `run_until`. Its streams are read on until EOF, but no more than a second after the kill.
+/// `run_until`.
 ///
 /// `tell` is called with the place of a task where it starts, with each line that it writes once it
 /// is read, and where it ends. The lines of one stream come in their order; between those of both

@@ -7,7 +7,7 @@ ghost use Rattle.duct_tasks.specs.Tasks.{AreEnds, GoesIfDue, IsReadyTask, MaySto
 ghost use Rattle.duct_tasks.specs.Turns.{gives};
 
 use crate::finished::Finished;
-use crate::job::{Came, Job};
+use crate::job::{Came, Job, Step};
 use crate::many::Tasks;
 use crate::request::request_of;
 use duct::Expression;
@@ -168,12 +168,12 @@ pub(crate) fn running<R, L: Read>(task: &Task<R, L>) -> usize
     }
 }
 
-/// Whether a task has failed.
+/// Whether a task has failed: once its commands have ended with a failure, or were killed.
 pub(crate) fn has_failed<R, L: Read>(task: &Task<R, L>) -> bool
-    ensures { result ≡ true → failed_of task.now ≡ 1 }
+    ensures { failed_of task.now ≡ (if result then 1 else 0) }
 {
     match task {
-        Task::Running(_) => false,
+        Task::Running(job) => matches!(job.step, Step::Killed(_, _) | Step::Failed(_, _)),
         Task::Ended(finished) => finished.has_failed(),
     }
 }

@@ -124,7 +124,9 @@ impl Machine for Scripted {
         answers: &mut String,
     ) -> Result<(), TableError> {
         let (system, pool) = (&mut self.bench.sys, &mut self.bench.pool);
-        run_tasks(rt, &self.clock, trees, text, system, pool, answers)
+        run_tasks(rt, &self.clock, trees, text, system, pool, answers)?;
+        self.bench.gate.open();
+        Ok(())
     }
 
     fn call(&mut self, call: &str, ids: &[u32], answer: &mut String) -> Result<(), TableError> {

@@ -4,7 +4,7 @@ use crate::words::{error_kind, fault, first_word, pairs};
 use duct::{ExitStatus, Fault, Pool, Said};
 use duct_base::pool::{place_new, pool_take, reservation_new};
 use duct_script::{
-    Answers, CallLog, ChildScript, DrainScript, PollAnswer, ReadStep, ReaderScript, Script,
+    Answers, CallLog, ChildScript, DrainScript, Gate, PollAnswer, ReadStep, ReaderScript, Script,
     ScriptChild, Sort,
 };
 use std::alloc::Global;
@@ -17,6 +17,8 @@ pub struct Bench {
     pub sys: Script,
     pub pool: Pool<ScriptChild>,
     pub calls: Arc<CallLog>,
+    /// Where readers wait that are held.
+    pub gate: Gate,
 }
 
 /// The first number that the system assigns.
@@ -37,12 +39,20 @@ impl Bench {
             sys,
             pool: Pool::new(alloc),
             calls,
+            gate: Gate::new(alloc)?,
         })
     }
 
     /// Sets up the pool or the system by the line of this key. Returns whether there is such a key.
     /// Fails if the text is malformed, or on an allocation failure.
     pub fn set(&mut self, alloc: Global, key: &str, text: &str) -> Result<bool, TableError> {
+        if key == "held" {
+            self.gate.shut();
+            let mut script = reader_script(alloc, text)?;
+            script.gate = Some(self.gate.share()?);
+            self.sys.bytes(script)?;
+            return Ok(true);
+        }
         if key != "kept" {
             return set_system(alloc, &mut self.sys, key, text);
         }

@@ -18,6 +18,8 @@ pub enum StepsError {
     NoName { line: usize },
     #[error("line {line}: a name for the second time")]
     Twice { line: usize },
+    #[error("line {line}: a name too long for the file of a recording")]
+    LongName { line: usize },
     #[error("line {line}: {error}")]
     Command { line: usize, error: LineError },
     #[error("no steps")]

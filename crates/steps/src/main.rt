@@ -18,13 +18,13 @@ use clap::Error;
 use clap::error::ErrorKind;
 use duct_host::Host;
 use duct_program::arguments;
-use std::io;
 use std::process::ExitCode;
+use std::{env, io};
 
 fn main(rt: HostRuntime) -> ExitCode {
     // Before any file, which would else take the place of a closed standard stream.
     let mut host = Host::new(&rt, rt.alloc());
-    let words = match arguments(&rt) {
+    let words = match env::args(&rt).and_then(|all| arguments(rt.alloc(), all)) {
         Ok(words) => words,
         Err(error) => {
             let line = "steps: argument is not UTF-8\n";

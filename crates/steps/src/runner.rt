@@ -12,6 +12,7 @@ use duct::{Clock, Entry, Hook, System};
 use duct_host::HostClock;
 use duct_program::{NoHook, Program};
 use duct_replay::{Recording, Replay, Values, private_file, read_recording, recording_text};
+use duct_script::ScriptClock;
 use duct_system::views::Viewed;
 use duct_tasks::{Finished, Progress};
 use duct_words::{quote, shell_text};
@@ -50,12 +51,10 @@ impl<'r, R: Threads + Wait + rt::Clock + Files + AllocGlobal, O: Write, E: Write
         S::Reader: Send + 'static,
         ensures well { result ≡ 0 → RunsNone self.old.options ⊎ RanTo ⟦<S as Viewed>⟧.views
             S.may_read S.Reader.remaining ⟦<NoHook as Hook>⟧.allows ⟦<NoHook as Hook>⟧.refuses
-            ⟦<HostClock<&'r R> as Clock>⟧.may_show self.old.options.limit true
-            system.old system.new }
+            ⟦<HostClock<&'r R> as Clock>⟧.may_show self.old.options true system.old system.new }
         ensures failed { result ≡ 1 → RunsNone self.old.options ⊎ RanTo ⟦<S as Viewed>⟧.views
             S.may_read S.Reader.remaining ⟦<NoHook as Hook>⟧.allows ⟦<NoHook as Hook>⟧.refuses
-            ⟦<HostClock<&'r R> as Clock>⟧.may_show self.old.options.limit false
-            system.old system.new }
+            ⟦<HostClock<&'r R> as Clock>⟧.may_show self.old.options false system.old system.new }
         ensures status { result ≤ 3 }
     {
         match self.perform(system) {
@@ -74,8 +73,7 @@ impl<'r, R: Threads + Wait + rt::Clock + Files + AllocGlobal, O: Write, E: Write
         S::Reader: Send + 'static,
         ensures { IfOk result (λ well. RunsNone self.old.options ⊎ RanTo ⟦<S as Viewed>⟧.views
             S.may_read S.Reader.remaining ⟦<NoHook as Hook>⟧.allows ⟦<NoHook as Hook>⟧.refuses
-            ⟦<HostClock<&'r R> as Clock>⟧.may_show self.old.options.limit well
-            system.old system.new) }
+            ⟦<HostClock<&'r R> as Clock>⟧.may_show self.old.options well system.old system.new) }
     {
         let bytes = fs::read(self.rt, self.options.file).map_err(StepsError::File)?;
         let text = text_of(&bytes)?;
@@ -83,17 +81,22 @@ impl<'r, R: Threads + Wait + rt::Clock + Files + AllocGlobal, O: Write, E: Write
         match self.options.replay {
             _ if self.options.is_dry => self.write_script(text),
             Some(path) => self.replay(path, text),
-            None => self.run_over(system, text),
+            None => {
+                let clock = HostClock::new(self.rt).map_err(StepsError::Clock)?;
+                self.run_over(system, text, &clock)
+            }
         }
     }
 
-    // Runs a step over its recording. Returns whether it ended well.
+    // Runs a step over its recording, all of which is read: the clock stands still. Returns whether
+    // it ended well.
     fn replay(&mut self, path: &str, text: &str) -> Result<bool, StepsError> {
         let alloc = self.rt.alloc();
         let lines = fs::read_to_string(self.rt, path).map_err(StepsError::Unread)?;
         let recording = read_recording(alloc, lines.as_str()).map_err(StepsError::Recording)?;
         let mut replay = Replay::new(alloc, recording);
-        let well = self.run_over(&mut replay, text)?;
+        let clock = ScriptClock::new(Vec::new(alloc));
+        let well = self.run_over(&mut replay, text, &clock)?;
         match replay.difference() {
             None => Ok(well),
             Some(place) => Err(StepsError::Differs(place)),
@@ -102,21 +105,27 @@ impl<'r, R: Threads + Wait + rt::Clock + Files + AllocGlobal, O: Write, E: Write
 
     // Runs the steps over a system, writes what they write and how they ended, and keeps the
     // recordings that are asked for. Returns whether all ended well.
-    fn run_over<S: System>(&mut self, system: &mut S, text: &str) -> Result<bool, StepsError>
+    fn run_over<S: System, C: Clock>(
+        &mut self,
+        system: &mut S,
+        text: &str,
+        clock: &C,
+    ) -> Result<bool, StepsError>
     where
         S::Reader: Send + 'static,
         ensures { IfOk result (λ well. RanTo ⟦<S as Viewed>⟧.views S.may_read S.Reader.remaining
-            ⟦<NoHook as Hook>⟧.allows ⟦<NoHook as Hook>⟧.refuses
-            ⟦<HostClock<&'r R> as Clock>⟧.may_show self.old.options.limit well
+            ⟦<NoHook as Hook>⟧.allows ⟦<NoHook as Hook>⟧.refuses C.may_show self.old.options well
             system.old system.new) }
     {
+        let alloc = self.rt.alloc();
+        let words = format!(in alloc; "setsid {}", self.options.over)?;
+        // The name of a file has at most 255 bytes, of which `.recording` takes ten.
+        let longest = self.options.record.map_or(usize::MAX, |_| 245);
+        let steps = read_steps(alloc, text, words.as_str(), &self.options.only, longest)?;
         if let Some(folder) = self.options.record {
             fs::create_dir_all(self.rt, folder).map_err(StepsError::Unkept)?;
         }
-        let words = format!(in self.rt.alloc(); "setsid {}", self.options.over)?;
-        let steps = read_steps(self.rt.alloc(), text, words.as_str(), &self.options.only)?;
-        let clock = HostClock::new(self.rt).map_err(StepsError::Clock)?;
-        let ends = self.tell_all(system, &steps, &clock)?;
+        let ends = self.tell_all(system, &steps, clock)?;
         summarize(&mut self.out, &steps.names, &ends, self.options.limit)?;
         if let Some(folder) = self.options.record {
             self.keep(folder, system.journal(), &steps.names, &ends)?;
@@ -135,7 +144,8 @@ impl<'r, R: Threads + Wait + rt::Clock + Files + AllocGlobal, O: Write, E: Write
         S::Reader: Send + 'static,
         ensures { IfOk result (λ ends. Ran ⟦<S as Viewed>⟧.views S.may_read S.Reader.remaining
             ⟦<NoHook as Hook>⟧.allows ⟦<NoHook as Hook>⟧.refuses C.may_show
-            steps.now.commands.items self.old.options.limit system.old ends.items system.new) }
+            steps.now.commands.items self.old.options.jobs self.old.options.limit
+            system.old ends.items system.new) }
     {
         let (jobs, limit) = (self.options.jobs, self.options.limit);
         let mut line = ProgressLine {
@@ -166,7 +176,7 @@ impl<R: Files + AllocGlobal, O: Write, E> Runner<'_, R, O, E> {
     // Writes a script that runs the steps one after the other, up to the first that fails.
     fn write_script(&mut self, text: &str) -> Result<bool, StepsError> {
         let (alloc, options) = (self.rt.alloc(), &self.options);
-        let steps: Steps<u64> = read_steps(alloc, text, options.over, &options.only)?;
+        let steps: Steps<u64> = read_steps(alloc, text, options.over, &options.only, usize::MAX)?;
         let mut script = String::from_str(alloc, "set -e\n")?;
         for (name, command) in steps.names.iter().zip(&steps.commands) {
             let line = shell_text(alloc, command).map_err(StepsError::Script)?;
@@ -199,20 +209,23 @@ impl<R: Files + AllocGlobal, O: Write, E> Runner<'_, R, O, E> {
     // Writes a recording to the file at this path.
     fn write_recording(&self, path: &str, recording: &Recording) -> Result<(), StepsError> {
         let text = recording_text(self.rt.alloc(), recording, Values::Shown)?;
-        let mut file = private_file(self.rt, path).map_err(StepsError::Unkept)?;
+        let opened = private_file(self.rt, path);
+        let mut file = opened.map_err(StepsError::Unkept)?.file;
         file.write_all(text.as_bytes()).map_err(StepsError::Unkept)
     }
 
-    // Returns the words that run a step again from the recording at this path.
+    // Returns the words that run a step again from the recording at this path, also where a name
+    // begins with `-`.
     fn replay_line(&self, name: &str, path: &str) -> Result<String, AllocError> {
-        let (file, over) = (self.options.file, self.options.over);
-        let words = [
-            "steps", file, "--only", name, "--replay", path, "--over", over,
-        ];
+        let (alloc, file, over) = (self.rt.alloc(), self.options.file, self.options.over);
+        let only = format!(in alloc; "--only={name}")?;
+        let replay = format!(in alloc; "--replay={path}")?;
+        let (only, replay) = (only.as_str(), replay.as_str());
         if over.is_empty() {
-            return quote(self.rt.alloc(), &words[..6]);
+            return quote(alloc, &["steps", only, replay, "--", file]);
         }
-        quote(self.rt.alloc(), &words)
+        let over = format!(in alloc; "--over={over}")?;
+        quote(alloc, &["steps", only, replay, over.as_str(), "--", file])
     }
 }
 

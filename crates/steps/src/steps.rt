@@ -12,6 +12,7 @@ use duct_system::views::Viewed;
 use duct_tasks::{AtFailure, Finished, Progress, TaskEnd, Tasks, last_lines, run_all};
 use duct_words::{LineError, SplitError};
 use std::alloc::{AllocError, Global};
+use std::collections::HashSet;
 use std::io::{self, Write};
 use std::sync::Wait;
 use std::thread::Threads;
@@ -23,27 +24,30 @@ pub struct Steps<'t, E> {
     pub names: Vec<&'t str>,
     pub commands: Vec<Expression<E, NoHook>>,
     /// The names of all lines, also of those that were not asked for.
-    known: Vec<&'t str>,
+    known: HashSet<&'t str>,
 }
 
-/// Reads lines `name: command line`, but for empty ones and those that begin with `#`. These words
-/// stand before those of each command. Returns the steps that have one of these names, or all where
-/// there are no names. Fails at the first line that is no step, and where a name or all steps are
+/// Reads lines `name: command line`, each up to `\n` or `\r\n`, but for empty ones and those that
+/// begin with `#`. These words stand before those of each command. Returns the steps that have one
+/// of these names, or all where there are no names. Fails at the first line that is no step, or is
+/// one to return whose name has more bytes than `longest`, and where a name or all steps are
 /// missing.
 pub fn read_steps<'t, E: Drop>(
     alloc: Global,
     text: &'t str,
     words: &str,
     only: &[&str],
+    longest: usize,
 ) -> Result<Steps<'t, E>, StepsError> {
+    let asked: HashSet<&str> = only.iter().copied().collect(alloc)?;
     let mut steps = Steps {
         names: Vec::new(alloc),
         commands: Vec::new(alloc),
-        known: Vec::new(alloc),
+        known: HashSet::new(alloc),
     };
     for (place, line) in text.lines().enumerate() {
         if !line.is_empty() && !line.starts_with('#') {
-            steps.add(alloc, place.saturating_add(1), line, words, only)?;
+            steps.add(alloc, place.saturating_add(1), line, words, &asked, longest)?;
         }
     }
     if !only.iter().all(|name| steps.known.contains(name)) {
@@ -56,19 +60,21 @@ pub fn read_steps<'t, E: Drop>(
 }
 
 impl<'t, E: Drop> Steps<'t, E> {
-    // Adds the step of the line with this number and text.
+    // Adds the step of the line with this number and text, if it is one of those asked for, or all
+    // are.
     fn add(
         &mut self,
         alloc: Global,
         line: usize,
         text: &'t str,
         words: &str,
-        only: &[&str],
+        asked: &HashSet<&str>,
+        longest: usize,
     ) -> Result<(), StepsError> {
         let Some((name, command)) = named(text) else {
             return Err(StepsError::NoName { line });
         };
-        if self.known.contains(&name) {
+        if !self.known.insert(name)? {
             return Err(StepsError::Twice { line });
         }
         let command = match behind(alloc, words, command) {
@@ -78,12 +84,14 @@ impl<'t, E: Drop> Steps<'t, E> {
             }
             Err(error) => return Err(StepsError::Command { line, error }),
         };
-        self.known.push(name)?;
-        if only.is_empty() || only.contains(&name) {
-            self.commands.push(command)?;
-            self.names.push(name)?;
+        if !asked.is_empty() && !asked.contains(&name) {
+            return Ok(());
         }
-        Ok(())
+        if name.len() > longest {
+            return Err(StepsError::LongName { line });
+        }
+        self.commands.push(command)?;
+        Ok(self.names.push(name)?)
     }
 }
 
@@ -105,7 +113,7 @@ where
     requires { (t : T) (place : _) (told : _) → T.pre t place told }
     ensures ran { IfOk result (λ ends. Ran ⟦<S as Viewed>⟧.views S.may_read S.Reader.remaining
         ⟦<NoHook as Hook>⟧.allows ⟦<NoHook as Hook>⟧.refuses C.may_show
-        steps.now.commands.items limit system.old ends.items system.new) }
+        steps.now.commands.items at_once limit system.old ends.items system.new) }
     ensures failed { IfErr result (λ error. system.new ≡ system.old) }
 {
     let tasks = Tasks {
@@ -123,7 +131,7 @@ where
     }
 }
 
-/// Writes a line of a step, with its name in front.
+/// Writes a line of a step, which has no end, with its name in front.
 pub fn write_line<W: Write>(out: &mut W, name: &str, line: &[u8]) -> io::Result<()> {
     write!(out, "{name}: ")?;
     out.write_all(line)?;
@@ -160,9 +168,13 @@ pub fn summarize<W: Write>(
         }
     }
     for (end, name) in ends.iter().zip(names) {
-        if end.has_failed() && !end.stderr.is_empty() {
+        let lines = last_lines(&end.stderr, 4096);
+        if end.has_failed() && !lines.is_empty() {
             writeln!(out, "--- {name}: stderr")?;
-            out.write_all(last_lines(&end.stderr, 4096))?;
+            out.write_all(lines)?;
+            if !lines.ends_with(b"\n") {
+                out.write_all(b"\n")?;
+            }
         }
     }
     out.flush()
@@ -171,54 +183,21 @@ pub fn summarize<W: Write>(
 #[cfg(test)]
 mod tests {
     use super::*;
-    use duct::{ExitStatus, Fault, Kind};
-    use duct_script::{PollAnswer, Script, ScriptClock, Sort};
+    use duct::{Fault, Kind};
+    use duct_script::{Script, ScriptClock, Sort};
     use std::test::Fail;
-
-    // Runs two steps over a system, by a clock of these seconds. Returns the summary.
-    fn told(
-        rt: &(impl Threads + Wait + AllocGlobal),
-        system: Script,
-        seconds: &[u64],
-        limit: Option<Duration>,
-    ) -> Result<String, Fail> {
-        let (alloc, mut system) = (rt.alloc(), system);
-        let mut out = Vec::new(alloc);
-        let moments = seconds.iter().map(|it| Duration::from_secs(*it));
-        let clock = ScriptClock::new(moments.collect(alloc)?);
-        let steps = read_steps(alloc, "lint: lint\nunit: make", "", &[])?;
-        let ends = run_steps(rt, &mut system, &steps, &clock, 2, limit, |_, _| {})?;
-        summarize(&mut out, &steps.names, &ends, limit)?;
-        Ok(String::from_utf8(out)?)
-    }
 
     #[test]
     fn a_spawn_that_fails(rt: HostRuntime) -> Result<(), Fail> {
-        let mut system = Script::new(rt.alloc())?;
+        let (alloc, clock) = (rt.alloc(), ScriptClock::new(Vec::new(rt.alloc())));
+        let mut system = Script::new(alloc)?;
         system.refuse_sort(Sort::Spawn, 1, Fault::new(Kind::NotFound))?;
+        let steps = read_steps(alloc, "lint: lint\nunit: make", "", &[], 4)?;
+        let ends = run_steps(&rt, &mut system, &steps, &clock, 2, None, |_, _| {})?;
+        let mut out = Vec::new(alloc);
+        summarize(&mut out, &steps.names, &ends, None)?;
         let wanted = "lint: spawn of \"lint\": NotFound, 0 s\nunit: not started\n";
-        assert_eq!(rt; told(&rt, system, &[], None)?.as_str(), wanted);
-        Ok(())
-    }
-
-    #[test]
-    fn a_child_that_is_killed(rt: HostRuntime) -> Result<(), Fail> {
-        let mut system = Script::new(rt.alloc())?;
-        system.polls(&[PollAnswer::Ended(ExitStatus::Code(2))])?; // the other one runs on
-        let wanted = "lint: command [\"lint\"] exited with code 2, 0 s\nunit: stopped, 5 s\n";
-        assert_eq!(rt; told(&rt, system, &[0, 0, 0, 0, 5], None)?.as_str(), wanted);
-        Ok(())
-    }
-
-    #[test]
-    fn a_limit_that_passes(rt: HostRuntime) -> Result<(), Fail> {
-        let (system, limit) = (Script::new(rt.alloc())?, Some(Duration::from_secs(5)));
-        let wanted = "lint: late: command [\"lint\"] has not ended, 9 s
-unit: late: command [\"make\"] has not ended, 9 s\n";
-        assert_eq!(rt;
-            told(&rt, system, &[0, 0, 5, 5, 5, 5, 9], limit)?.as_str(),
-            wanted
-        );
+        assert_eq!(rt; str::from_utf8(&out)?, wanted);
         Ok(())
     }
 }

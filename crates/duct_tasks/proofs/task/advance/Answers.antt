@@ -1,7 +1,8 @@
 use Rattle.std.proofs.Common.{◌≡◌, ◌∙◌, ap, subst, sym, Bool, if◌then◌else◌, length, ℕ}
 use Rattle.duct_tasks.proofs.Common.{Ended, Running, RunningView, Task, counted, numbers_of, views_of}
+use Rattle.duct_tasks.proofs.Counting.{no_less}
 use Rattle.duct_tasks.proofs.Jobs.{ends_on, same_on, then_on}
-use Rattle.duct_tasks.specs.Tasks.{IsDue, IsDueTask, has_failed, left_by}
+use Rattle.duct_tasks.specs.Tasks.{IsDue, IsDueTask, has_failed, has_failed_at, left_by}
 use Rattle.duct_tasks.specs.declared.job.Job.{Job}
 use Rattle.duct_tasks.proofs.task.advance.Goals as goal
 
@@ -11,6 +12,12 @@ returns-in_default-clause-goes g c =
     λ stopped due. same_on views g.S.System.may_read g.S.Reader.Read.remaining g.H.Hook.allows
     g.H.Hook.refuses g.C.Clock.may_show c.args.tasks.now stopped c.args.task.now
     c.args.sys.now c.args.pool.now.given due
+
+pub returns-in-Running-replace-clause-fails : goal.returns-in-Running-replace-clause-fails
+returns-in-Running-replace-clause-fails g c =
+    rw (c.in-Running.is, c.replace.ensures.after)
+    (no_less (has_failed_at c.in-Running.job.step) (has_failed c.finish-finished.result)
+    (λ is. c.finish-finished.ensures.fails (c.turn-came.ensures.fails is)))
 
 pub returns-in-Running-replace-clause-goes : goal.returns-in-Running-replace-clause-goes
 returns-in-Running-replace-clause-goes g c =

@@ -1,6 +1,6 @@
-use Rattle.std.proofs.Common.{◌≡◌, ◌∙◌, arith, ap, sym, false, true, subst, length, length-append, [], ◌∷◌, ℕ, List, get_or, sum_by}
+use Rattle.std.proofs.Common.{◌≡◌, ◌∙◌, Bool, if◌then◌else◌, arith, ap, sym, false, true, subst, length, length-append, [], ◌∷◌, ℕ, List, get_or, sum_by}
 use Rattle.duct_tasks.proofs.Common.{All-push, sum_by_push, views_of, failed_of, running_of, Task}
-use Rattle.duct_tasks.proofs.Counting.{either}
+use Rattle.duct_tasks.proofs.Counting.{either, neither}
 use Rattle.duct_tasks.proofs.Ends.{not_stopped}
 use Rattle.duct_tasks.proofs.Jobs.{due_from}
 use Rattle.duct_tasks.proofs.Moving.{goes_next}
@@ -17,6 +17,9 @@ invariant_of-self g c =
     in
     let fails = sum_by_push (λ (t : Task _ _). failed_of t) self.started.items c.started-made.result
     in
+    let counts : (b : Bool) → c.has_failed.result ≡ b
+    → failed_of c.started-made.result ≡ (if b then 1 else 0) =
+    λ b is. c.has_failed.ensures ∙ ap (λ (b : Bool). if b then 1 else 0) is in
     let failed = ap (λ (ts : List (Task _ _)). sum_by (λ t. failed_of t) ts) items in
     record {
       some = self.some;
@@ -31,7 +34,10 @@ invariant_of-self g c =
       );
       fails = either self.failed c.has_failed.result (λ is. omega
           (arith, self.fails is, fails, failed))
-          (λ is. omega (arith, c.has_failed.ensures is, fails, failed));
+          (λ is. omega (arith, counts true is, fails, failed));
+      well = λ is.
+          let none = neither self.failed c.has_failed.result is in
+          omega (arith, self.well none.0, counts false none.1, fails, failed);
       stops = λ is. absurd (let no : false ≡ true = calm ∙ is in cc);
       room = rw c.push_reserved.ensures.capacity self.room;
       within = omega (

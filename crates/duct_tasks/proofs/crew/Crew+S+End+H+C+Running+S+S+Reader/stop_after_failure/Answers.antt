@@ -24,6 +24,7 @@ invariant_of-self-in-loop-at g c =
       few = now.few;
       runs = omega (arith, now.runs, c.ask.ensures.runs, runs);
       fails = λ is. omega (arith, now.fails is, c.ask.ensures.fails, fails);
+      well = λ is. omega (arith, now.well is, c.ask.ensures.fails, fails);
       stops = now.stops;
       room = now.room;
       within = rw (length-set now.started.items c.loop-at.at after) now.within;

@@ -1,6 +1,6 @@
-use Rattle.std.proofs.Common.{arith, refl, subst, sym}
+use Rattle.std.proofs.Common.{◌≡◌, ◌∙◌, Bool, if◌then◌else◌, ap, arith, false, true, refl, subst, sym}
 use Rattle.duct_tasks.proofs.Common.{All-set, length-set, failed_of, running_of, Task, views_of}
-use Rattle.duct_tasks.proofs.Counting.{changed, either}
+use Rattle.duct_tasks.proofs.Counting.{changed, either, neither}
 use Rattle.duct_tasks.proofs.Moving.{goes_at}
 use Rattle.duct_tasks.specs.Tasks.{IsDue, IsReadyIf}
 use Rattle.duct_tasks.proofs.crew.Crew+S+End+H+C+Running+S+S+Reader.turn.Goals as goal
@@ -14,6 +14,8 @@ invariant_of-self g c =
     c.index_mut-task.ensures.value c.requires.within in
     let fails = changed (λ (t : Task _ _). failed_of t) before after c.args.at self.started.items
     c.index_mut-task.ensures.value c.requires.within in
+    let counts : (b : Bool) → c.has_failed.result ≡ b → failed_of after ≡ (if b then 1 else 0) =
+    λ b is. c.has_failed.ensures ∙ ap (λ (b : Bool). if b then 1 else 0) is in
     record {
       some = self.some;
       few = omega (
@@ -28,7 +30,10 @@ invariant_of-self g c =
       runs = omega (arith, self.runs, runs, c.running.ensures.is, c.running-2.ensures.is);
       fails = either self.failed c.has_failed.result (λ is. omega
           (arith, self.fails is, fails, c.advance-came.ensures.fails))
-          (λ is. omega (arith, c.has_failed.ensures is, fails));
+          (λ is. omega (arith, counts true is, fails));
+      well = λ is.
+          let none = neither self.failed c.has_failed.result is in
+          omega (arith, self.well none.0, counts false none.1, fails);
       stops = λ is. let stop = self.stops is in (rw stop.0 refl, stop.1);
       room = self.room;
       within = rw (length-set self.started.items c.args.at after) self.within;

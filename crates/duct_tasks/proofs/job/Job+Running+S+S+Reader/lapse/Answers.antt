@@ -24,7 +24,7 @@ returns-then-has_lapsed-clause-goes g c =
     (killed_on views g.S.System.may_read g.S.Reader.Read.remaining g.H.Hook.allows
     g.H.Hook.refuses g.C.Clock.may_show c.args.tasks.now stopped job polled killed
     (record { ended = c.ended-ended.result; killed = c.order_all-killed.result }) c.args.last
-    c.saturating_add-last.result given.0 (c.args.sys.now, c.args.pool.now)
+    c.last_read.result given.0 (c.args.sys.now, c.args.pool.now)
     (c.order_all-killed.new.sys, c.order_all-killed.new.pool) c.requires.asked
     c.ended-ended.ensures.polls c.ended-ended.ensures.stays c.ended-ended.ensures.stores
     (c.has_lapsed.ensures c.if-has_lapsed.true) given.1 c.order_all-killed.ensures.alike)

@@ -94,7 +94,7 @@ returns-in-Ok-clause-ready g c = record {
         length-map children (λ c. c.process),
         length-map children (λ c. c.number),
       );
-  closed = tt;
+  until = tt;
 }
 
 pub returns-in-Err-clause-err : goal.returns-in-Err-clause-err
