@@ -12,7 +12,6 @@ use Rattle.duct_system.specs.SystemViews.{SystemViews}
 use Rattle.duct_running.specs.Stored.{Bytes}
 use Rattle.duct.specs.Launched.{Ran, ReadFails, Reads, added_between, reading}
 use Rattle.duct_program.specs.Line.{meant}
-use Rattle.duct_program.specs.Parsed.{RefusesAs}
 use Rattle.duct_program.specs.declared.failure.Failure.{Failure}
 use Rattle.duct_program.specs.declared.failure.Failure.TheVariants as failures
 use Rattle.duct_program.specs.declared.usage.Usage.{Usage}
@@ -108,7 +107,7 @@ module _ {S E C F D : Type 0} (views : SystemViews S E C F D (Unit {0}) Bytes) {
   abbrev pub WritesUsage : {O W : Type 0} → (W → Option (List ℕ)) → List (List ℕ) → S → S
       → O → O → W → W → Type 0
   WritesUsage contents args sys after out out_after err err_after = (usage : Usage)
-      × RefusesAs usage (line_of views.number_of allows args)
+      × (line_of views.number_of allows args ≡ Err usage)
       × (views.journal after ≡ views.journal sys)
       × AppendsFailure (failures.Usage usage) (contents err) (contents err_after)
       × (out_after ≡ out)

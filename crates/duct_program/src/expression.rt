@@ -2,7 +2,7 @@
 ghost use Rattle.std.specs.Prelude.{◌≡◌, ◌∷◌, map, position, Ok, string_bytes, IfOk, IsOkUnless, option_map};
 ghost use Rattle.duct_start.specs.TreeView.{around};
 ghost use Rattle.duct.specs.TreeView.{tree_view};
-ghost use Rattle.duct_program.specs.Line.{command_view, redirection_view, further, is_bar, meant, piece_tree, pieces, pipeline_of, redirected_tree, redirects, with_options, worded_tree, options_view};
+ghost use Rattle.duct_program.specs.Line.{command_view, redirection_view, further, is_bar, meant, pieces, pipeline_of, redirected_tree, redirects, with_options, worded_tree, options_view};
 ghost use Rattle.duct_program.specs.Parsed.{ParsesAs};
 
 use crate::command::{Command, Redirection, read_command};
@@ -31,10 +31,10 @@ fn pipeline<E: Drop, H: Drop>(alloc: Global, args: &[String]) -> Result<Expressi
     ensures { ParsesAs tree_view result (pipeline_of (pieces (map string_bytes args.now))) }
 {
     let (piece, mut rest) = first_piece(args);
-    let mut left = redirected_command(alloc, piece)?;
+    let mut left = command_expression(alloc, read_command(alloc, piece)?)?;
     while let Some(args) = rest {
         let (piece, behind) = first_piece(args);
-        let right = redirected_command(alloc, piece)?;
+        let right = command_expression(alloc, read_command(alloc, piece)?)?;
         left = left.pipe(&right).map_err(out_of_memory)?;
         rest = behind;
     }
@@ -57,16 +57,6 @@ fn bar(args: &[String]) -> Option<usize>
     ensures { result ≡ position (λ arg. is_bar (string_bytes arg)) args.now }
 {
     args.iter().position(|arg| arg.as_str() == "|")
-}
-
-// The command of one piece, with its redirections around it.
-fn redirected_command<E: Drop, H: Drop>(
-    alloc: Global,
-    piece: &[String],
-) -> Result<Expression<E, H>, Usage>
-    ensures { ParsesAs tree_view result (piece_tree (map string_bytes piece.now)) }
-{
-    command_expression(alloc, read_command(alloc, piece)?)
 }
 
 /// Returns the expression of a command: its words, with its redirections around them, the first one

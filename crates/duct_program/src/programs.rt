@@ -1,17 +1,22 @@
 //! What the programs share: how they read their arguments and their input, and how they end where
 //! they can't do their work.
-ghost use Rattle.std.specs.Prelude.{◌≡◌, ◌≢◌, ◌⊎◌, ℕ, List, ◌∷◌, codes, map, string_bytes, None, IfErr, IfOk, IfSome};
+ghost use Rattle.std.specs.Prelude.{◌≡◌, ◌≢◌, ◌⊎◌, ℕ, List, ◌∷◌, codes, drop, map, string_bytes, None, IfErr, IfOk, IfSome};
 ghost use Rattle.std.specs.Io.KnownBytes.{Appends, IsAtEnd};
+ghost use Rattle.std.specs.Vec.Iter.{into_iter_items};
 
-use std::alloc::AllocError;
+use std::alloc::{AllocError, Global};
 use std::io::{ErrorKind, Read, Write};
-use std::rt::{Env, Files};
+use std::rt::Files;
 use std::{env, fs, io};
 
-/// Returns the arguments after the program's own name. Fails if one of them is not UTF-8, or if
-/// memory runs out.
-pub fn arguments<R: Env + AllocGlobal>(rt: &R) -> io::Result<Vec<String>> {
-    Ok(env::args(rt)?.skip(1).collect(rt.alloc())?)
+/// Returns the arguments after the first, which is the program's own name. Fails only at an
+/// allocation failure.
+///
+/// Example: `arguments(alloc, env::args(&rt)?)?`
+pub fn arguments(alloc: Global, all: env::Args) -> io::Result<Vec<String>>
+    ensures { IfOk result (λ words. words.items ≡ drop 1 (into_iter_items all)) }
+{
+    Ok(all.skip(1).collect(alloc)?)
 }
 
 /// Returns a path and words that stand in front of the mark `--` and behind it, or `None` where the

@@ -10,7 +10,7 @@ use Rattle.duct_system.specs.declared.system.Entry.{Entry}
 use Rattle.duct_replay.specs.Judged.{HadMemory, IsLostSpawn, lacks_memory, stops_without_memory}
 
 -- the view of the entry at a place
-view_at : (entries : List Entry) (place : ℕ) (entry : Entry) → place < length entries
+pub view_at : (entries : List Entry) (place : ℕ) (entry : Entry) → place < length entries
     → entry ≡ get_or entries place entry
     → slice_get (map entry_view entries) place ≡ Some (entry_view entry)
 view_at entries place entry within is =

@@ -79,13 +79,8 @@ pub fn read_recording(alloc: Global, text: &str) -> Result<Recording, LineRefusa
 fn all_lines(alloc: Global, text: &str) -> Result<Vec<String>, AllocError>
     ensures { IfOk result (λ all. map string_bytes all.items ≡ lines text.now) }
 {
-    copies_of_texts(alloc, pieces(alloc, text)?.as_slice())
-}
-
-fn pieces(alloc: Global, text: &str) -> Result<Vec<&str>, AllocError>
-    ensures { IfOk result (λ all. map (λ piece. piece.now) all.items ≡ lines text.now) }
-{
-    text.lines().collect(alloc)
+    let pieces: Vec<&str> = text.lines().collect(alloc)?;
+    copies_of_texts(alloc, pieces.as_slice())
 }
 
 fn read_lines(alloc: Global, lines: &[String]) -> Result<Recording, LineRefusal>

@@ -90,7 +90,7 @@ fn verdict_on(
         (map entry_view made.now) error.now) }
 {
     let place = first_difference(alloc, recorded, made)?;
-    if stops_without_memory(error) && !any_lacks_memory(&made[..place]) {
+    if stops_without_memory(error) && !made[..place].iter().any(|entry| lacks_memory(entry)) {
         return Err(AllocError);
     }
     if is_lost_spawn(entry_at(recorded, place), entry_at(made, place))? {
@@ -157,12 +157,6 @@ fn stops_without_memory(error: &Option<Error>) -> bool
         Some(Error::Memory) => true,
         _ => false,
     }
-}
-
-fn any_lacks_memory(entries: &[Entry]) -> bool
-    ensures { result ≡ list_any (λ entry. lacks_memory (entry_view entry)) entries.now }
-{
-    entries.iter().any(|entry| lacks_memory(entry))
 }
 
 // Returns whether the request of an entry was refused for lack of memory.

@@ -21,7 +21,7 @@ mod write;
 pub use error::{LineRefusal, Refusal};
 pub use journal::{journal_text, read_journal, read_recording, recording_text};
 pub use judgement::{Verdict, judge};
-pub use private::private_file;
+pub use private::{PrivateFile, private_file};
 pub use read::read_entry;
 pub use recorded::{RecordedChild, RecordedDrain, RecordedReader};
 pub use recorder::{Recorder, Records};

@@ -1,4 +1,5 @@
--- What a failure's cause is, and what it becomes as an `io::Error`.
+-- What a failure's cause is, which path its text names, and what it becomes as an `io::Error`.
+use Rattle.std.specs.Prelude.{ℕ, List, ◌≡◌, ◌++◌, codes}
 use Rattle.std.specs.declared.io.ErrorKind.{ErrorKind}
 use Rattle.std.specs.declared.io.ErrorKind.TheVariants as kind
 use Rattle.std.specs.IoError.{error_kind}
@@ -19,6 +20,10 @@ IsRunAnd (cause.Variable e) holds = ⊥
 IsRunAnd (cause.Failed run) holds = ⊥
 IsRunAnd (cause.Late late) holds = ⊥
 IsRunAnd cause.NoJob holds = ⊥
+
+-- a text has a path in front, then a colon and a space
+abbrev pub NamesPath : List ℕ → List ℕ → Type 0
+NamesPath path text = (behind : List ℕ) × (text ≡ path ++ (codes ": " ++ behind))
 
 -- the kind of the `io::Error` that a failure with this cause becomes: that of its fault or of its
 -- `io::Error`, or of the same meaning

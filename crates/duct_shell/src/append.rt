@@ -1,12 +1,15 @@
 //! Files that grow.
-ghost use Rattle.std.specs.Prelude.{◌≡◌, ◌+◌, IfOk, OnErr};
+ghost use Rattle.std.specs.Fs.{new_options, with_append, with_create};
+ghost use Rattle.std.specs.Prelude.{◌≡◌, ◌+◌, true, IfOk, OnErr};
 
 use crate::failure::Failure;
 use crate::shell::Shell;
 use duct_host::{End, Host, Parents};
 use std::fs::{File, OpenOptions};
+use std::io;
 use std::process::Processes;
 use std::rt::{Env, Files};
+use std::snapshot::Snapshot;
 use std::thread::Threads;
 
 impl<'r, R: Processes + Files<File = File> + Env + Parents + Threads, H> Shell<
@@ -28,11 +31,29 @@ impl<'r, R: Processes + Files<File = File> + Env + Parents + Threads, H> Shell<
         ensures err { OnErr result (self.new.system ≡ self.old.system) }
         ensures stays { self.new ≡ record self.old { system = self.new.system } }
     {
-        let mut options = OpenOptions::new();
-        options.append(true).create(true);
-        match options.open(self.rt, path) {
+        let mut how = OpenOptions::new();
+        how.append(true).create(true);
+        match file_at(open(self.rt, &how, path), path) {
             Ok(file) => Ok(self.system.adopt_file(file)?),
             Err(error) => Err(Failure::at(self.alloc, path, error)),
         }
     }
+}
+
+// A file that was opened. Contracts see by which path.
+type Opened<'a> = io::Result<(File, Snapshot<&'a str>)>;
+
+// Opens a file for appending.
+fn open<'a, R: Files<File = File>>(rt: &R, how: &OpenOptions, path: &'a str) -> Opened<'a>
+    requires { how.now ≡ with_create (with_append new_options true) true }
+    ensures { IfOk result (λ opened. opened.1.value.now ≡ path.now) }
+{
+    Ok((how.open(rt, path)?, Snapshot::of(&path)))
+}
+
+// Returns the file that was opened by this path.
+fn file_at(opened: Opened<'_>, path: &str) -> io::Result<File>
+    requires { IfOk opened (λ opened. opened.1.value.now ≡ path.now) }
+{
+    Ok(opened?.0)
 }

@@ -1,10 +1,10 @@
 //! Why a call of a shell failed.
 ghost use Rattle.std.specs.IoError.{error_kind};
-ghost use Rattle.std.specs.Prelude.{◌≡◌, map, None, option_map, string_bytes};
+ghost use Rattle.std.specs.Prelude.{◌≡◌, map, None, option_map, string_bytes, IfSome};
 ghost use Rattle.std.specs.declared.io.Error as io;
 ghost use Rattle.duct_system.specs.EntryView.{entry_view};
 ghost use Rattle.duct_system.specs.declared.error.Error.TheVariants.{Memory, System};
-ghost use Rattle.duct_shell.specs.Converted.{io_kind, lines_cause};
+ghost use Rattle.duct_shell.specs.Converted.{NamesPath, io_kind, lines_cause};
 ghost use Rattle.duct_tasks.specs.FailedRequest.{Names};
 ghost use Rattle.duct_shell.specs.declared.failure.Cause.TheVariants as cause;
 
@@ -63,12 +63,15 @@ impl Failure {
     ///
     /// Example: `fs::read_to_string(rt, path).map_err(|error| Failure::at(alloc, path, error))?`
     pub fn at(alloc: Global, path: &str, error: io::Error) -> Failure
-        ensures { result.cause ≡ cause.Io error }
+        ensures cause { result.cause ≡ cause.Io error }
+        ensures request { IfSome result.request (λ text. NamesPath path.now (string_bytes text)) }
     {
-        Failure {
-            cause: Cause::Io(error),
-            request: format!(in alloc; "{path}: {error}").ok(),
-        }
+        let request = match error.to_string(alloc) {
+            Ok(text) => format!(in alloc; "{path}: {text}").ok(),
+            Err(_) => None,
+        };
+        let cause = Cause::Io(error);
+        Failure { cause, request }
     }
 }
 

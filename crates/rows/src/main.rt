@@ -25,10 +25,10 @@ use duct_program::arguments;
 use rows_runs::{Calls, HostMachine, Scripted};
 use rows_table::{Real, RowFile, TableError, Tally, compare, filled};
 use std::alloc::Global;
-use std::fs;
 use std::io::{self, Read, Write};
 use std::process::ExitCode;
 use std::sync::Wait;
+use std::{env, fs};
 
 /// Tries the rows of a file by the table that its first line names. Fails if there is no such
 /// table, if its first row can't be set up, or if the output can't be written.
@@ -142,7 +142,7 @@ fn files<R: Real + Wait, I: Read, W: Write>(
 }
 
 fn main(rt: HostRuntime) -> io::Result<ExitCode> {
-    let words = arguments(&rt)?;
+    let words = arguments(rt.alloc(), env::args(&rt)?)?;
     let mut out = io::writer(&rt);
     let mut holds = true;
     match words.as_slice() {

@@ -48,7 +48,10 @@ pub fn recorded<R: Files + Wait + AllocGlobal, S: Records, O: Write, E: Write>(
         return RECORD.tell(err, 2, usage);
     };
     match private_file(rt, path) {
-        Ok(mut file) => record(rt, rt.alloc(), sys, words, values, &mut file, out, err),
+        Ok(mut opened) => {
+            let journal = &mut opened.file;
+            record(rt, rt.alloc(), sys, words, values, journal, out, err)
+        }
         Err(error) => RECORD.tell_error(err, &error, 2, "record: journal can't be opened\n"),
     }
 }

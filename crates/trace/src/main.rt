@@ -11,8 +11,9 @@ use duct_host::Host;
 use duct_plan::print;
 use duct_program::{Program, arguments};
 use duct_replay::Recorder;
-use std::io;
+use std::io::Write;
 use std::process::ExitCode;
+use std::{env, io};
 
 const PROGRAM: Program = Program {
     no_memory: "trace: out of memory\n",
@@ -24,7 +25,7 @@ const USAGE: &str = "trace: usage: trace plan|record|judge|replay WORD..\n";
 
 fn main(rt: HostRuntime) -> ExitCode {
     let (alloc, mut out, mut err) = (rt.alloc(), io::writer(&rt), rt.stderr());
-    let words = match arguments(&rt) {
+    let words = match env::args(&rt).and_then(|all| arguments(alloc, all)) {
         Ok(words) => words,
         Err(error) => {
             let line = "trace: argument is not UTF-8\n";
@@ -37,9 +38,10 @@ fn main(rt: HostRuntime) -> ExitCode {
     ExitCode::from(match command.as_str() {
         "plan" => print(alloc, words, &mut out, &mut err),
         "record" => {
-            // Before the file, which would else take the place of a closed standard stream.
+            // Before the host, and that before the file: each takes the place of a closed stream.
+            let is_closed = out.write(&[]).is_err();
             let mut recorder = Recorder::new(alloc, Host::new(&rt, alloc));
-            recorded(&rt, &mut recorder, words, &mut out, &mut err)
+            recorded(&rt, &mut recorder, words, &mut out, &mut err).max(u8::from(is_closed))
         }
         "judge" => match recording_of(&rt, &mut rt.stdin(), &JUDGE, words, &mut err) {
             Ok((journal, words)) => judge_line(alloc, words, journal.entries(), &mut out, &mut err),

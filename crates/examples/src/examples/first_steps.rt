@@ -36,7 +36,7 @@ fn passes<S: System, R: Wait, C: Clock>(
 ) -> Result<bool, Failure> {
     match sh.run_for(clock, limit, Duration::from_secs(1), &test.unchecked()?)? {
         Until::Done(output) => Ok(output.status.success()),
-        Until::Late(_) => Ok(false), // it was sent signal 15, and killed a second later
+        Until::Late(_) => Ok(false), // signal 15 ended it, or a kill a second later
     }
 }
 
