@@ -29,7 +29,7 @@ pub use duct_base::spec::{CommandSpec, Hook, HookBox, Port, Stream};
 // What a start borrows: the operating system, and a pool for children that are given up.
 pub use duct_base::pool::{Place, Pool};
 pub use duct_base::system::{
-    Child, Clock, Entry, Fault, Job, Kind, Numbered, Order, Said, Side, Stdio, System,
+    Child, Clock, Entry, Fault, Job, Kind, Numbered, Order, Said, Side, Stdio, System, Writers,
 };
 
 // What runs, how it ended, and why a call failed.

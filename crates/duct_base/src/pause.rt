@@ -82,4 +82,12 @@ impl Pause {
             None => yield_now(),
         }
     }
+
+    /// Pauses once as `rest` does, but at most this long, and until this parker is woken.
+    pub fn rest_on(&mut self, rt: &impl Wait, parker: &Parker, most: Duration) {
+        match self.next() {
+            Some(park) => parker.park_timeout(rt, Duration::from_micros(park).min(most)),
+            None => yield_now(),
+        }
+    }
 }

@@ -94,6 +94,10 @@ impl<C: Child> Child for Place<C> {
         self.child.id()
     }
 
+    fn leads(&self) -> bool {
+        self.child.leads()
+    }
+
     ghost has_number = { λ p. C.has_number p };
 }
 

@@ -78,6 +78,10 @@ impl<C: Child> Child for GuardedChild<C> {
     fn id(&self) -> u32 {
         self.inner.id()
     }
+
+    fn leads(&self) -> bool {
+        self.inner.leads()
+    }
 }
 
 /// The two owners of a note: the guard and the child.

@@ -33,8 +33,8 @@ module _ {S E C F D V W : Type 0} (views : SystemViews S E C F D V W) where
   IsObeyed order numbers result =
       (result ≡ Err (error.System (record { kind = Other }))) ⊎ ∥ AllObey order numbers result ∥₁
 
-  -- each child that had not ended was given the order once, the result is the leftmost fault, and
-  -- the shape and the workers are as before
+  -- each child that had not ended or leads a group was given the order once, the result is the
+  -- leftmost fault, and the shape and the workers are as before
   pub record OrderedOnce (order : Order) (before : RunningView C F D)
       (result : Result (Unit {0}) Error) (after : RunningView C F D) : Type 0 where
     pub shape : after.shape ≡ before.shape

@@ -37,11 +37,11 @@ pub(crate) fn ordered<S: System>(
 }
 
 impl<S: System> Handle<S> {
-    /// Kills each command that is not known as ended, from right to left. Where one can't be
-    /// killed, the others still are.
+    /// Kills each command that is not known as ended, from right to left, and the group of each that
+    /// leads one, also of one that has ended. Where one can't be killed, the others still are.
     ///
     /// It doesn't wait until they have ended: a wait or a poll reaps them. It doesn't reach what
-    /// the commands started themselves: while such a process holds a capture pipe open, a wait
+    /// other commands started themselves: while such a process holds a capture pipe open, a wait
     /// still blocks. It doesn't wait for another thread's wait, but does for its `send_signal`.
     ///
     /// Fails with `Error::System`, the leftmost fault. If the note of the order can't be allocated

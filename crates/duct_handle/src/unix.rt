@@ -14,8 +14,9 @@ pub trait HandleExt {
     ghost obeyed: { Self → ℤ → Result (Unit {0}) Error → Type 0 };
 
     /// Sends a signal, by its number, to each command that is not known as ended, from right to
-    /// left. Where one can't be sent it, the others still are. It doesn't reach what the commands
-    /// started themselves, and doesn't wait until a command has ended.
+    /// left, and to the group of each that leads one, also of one that has ended. Where one can't be
+    /// sent it, the others still are. It doesn't reach what other commands started themselves, and
+    /// doesn't wait until a command has ended.
     ///
     /// The system decides which numbers it serves. A `Host` serves 1, 2, 3, 6, 9, 14 and 15. Number
     /// 9 is a kill. The others are sent by `/bin/sh`: the call blocks until that shell has ended,

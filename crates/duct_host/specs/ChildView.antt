@@ -7,6 +7,7 @@ abbrev pub child_view : {R S T U V : Type 0} → Child R S T U V → ChildView
 child_view child = record {
   number = child.number;
   process = child.id;
+  leads = child.leads;
   polls = child.polls;
   last = child.last;
   ending = child.seen.ending;

@@ -1,5 +1,5 @@
 -- The commands that a host starts.
-use Rattle.std.specs.Prelude.{◌≡◌, ℕ, ℤ, List, [], ◌∷◌, ◌++◌, None, Some, Option, codes}
+use Rattle.std.specs.Prelude.{◌≡◌, ℕ, ℤ, Bool, true, false, List, [], ◌∷◌, ◌++◌, None, Some, Option, codes}
 use Rattle.std.specs.Fmt.{◌++?◌, decimal, signed_decimal}
 use Rattle.std.specs.Process.{command_program, command_args, command_dir}
 use Rattle.std.specs.declared.alloc.Global.{Global}
@@ -13,14 +13,21 @@ pub record IsCommandOf (spec : SpecView) (command : Command Global) : Type 0 whe
   pub folder : command_dir command ≡ spec.folder
   pub vars : IsWholeEnvironment spec.vars command
 
--- the line by which a shell sends a signal to the process with this id, as `kill -15 4711`
-abbrev pub kill_line : ℤ → ℕ → List ℕ
-kill_line signal id = codes "kill -" ++ signed_decimal signal ++ codes " " ++ decimal id
+-- what comes between the signal and the id: a sign if the signal is for the group of the process
+abbrev pub before_id : Bool → List ℕ
+before_id true = codes " -"
+before_id false = codes " "
+
+-- the line by which a shell sends a signal to the process with this id, as `kill -15 4711`, or, if
+-- this is true, to the group that it leads, as `kill -15 -4711`
+abbrev pub kill_line : ℤ → Bool → ℕ → List ℕ
+kill_line signal group id =
+    codes "kill -" ++ signed_decimal signal ++ before_id group ++ decimal id
 
 -- the same as std prints its parts
-abbrev pub printed_line : ℤ → ℕ → Option (List ℕ)
-printed_line signal id =
-    Some (codes "kill -") ++? Some (signed_decimal signal) ++? Some (codes " ")
+abbrev pub printed_line : ℤ → Bool → ℕ → Option (List ℕ)
+printed_line signal group id =
+    Some (codes "kill -") ++? Some (signed_decimal signal) ++? Some (before_id group)
     ++? Some (decimal id)
 
 -- a command has the system's shell run a line, in the parent's folder and without variables

@@ -1,8 +1,9 @@
 //! A child process of the host.
-ghost use Rattle.std.specs.Prelude.{◌≡◌, ◌≢◌, ◌↔◌, pos, string_bytes, Contains, IsTrue, Some, Ok, IfSome, IfNone, IfOk, IfErr, OnOk, true};
+ghost use Rattle.std.specs.Prelude.{◌≡◌, ◌≢◌, ◌↔◌, pos, map, string_bytes, Contains, IsTrue, None, Some, Ok, Err, IfSome, IfNone, IfOk, IfErr, true, false};
 ghost use Rattle.duct_system.specs.declared.system.Kind.TheVariants.{Other};
 ghost use Rattle.std.specs.Process.{child_status, exit_code, exit_signal};
 ghost use Rattle.duct_host.specs.Commands.{RunsLine, kill_line, printed_line};
+ghost use Rattle.duct_host.specs.Groups.{signal_of, SentBy, IsGroupAnswer};
 ghost use Rattle.duct_host.specs.Endings.{IsTold, can_answer, can_end, ending_said};
 ghost use Rattle.duct_host.specs.Signals.{signals};
 
@@ -20,12 +21,17 @@ use std::snapshot::Snapshot;
 /// and is `Ok` for a child that was reaped. A signal blocks until the shell has ended. Dropping a
 /// child neither ends it nor waits for it: if no poll saw it end, it stays a zombie until the
 /// program ends.
+///
+/// A child whose program is `setsid` leads a process group. Each order to it, a kill too, goes to
+/// the whole group, also once the child has ended, and blocks until the shell that sends it has
+/// ended. Where there is no group yet, the order goes to the process, as for any other child.
 #[derive(Drop)]
 pub struct Child<R: Processes> {
     rt: R,
     alloc: Global,
     number: u64,
     id: u32,
+    leads: bool,
     polls: u64,
     last: Option<Result<Option<ExitStatus>, Fault>>,
     seen: SeenEnding,
@@ -46,8 +52,15 @@ impl<R: Processes> Child<R> {
     ghost use Rattle.duct_host.specs.ChildView.{child_view};
 
     /// A child that was just started, before any call.
-    pub(crate) fn new(rt: R, alloc: Global, number: u64, started: Started<R::Started>) -> Child<R>
+    pub(crate) fn new(
+        rt: R,
+        alloc: Global,
+        number: u64,
+        leads: bool,
+        started: Started<R::Started>,
+    ) -> Child<R>
         ensures number { result.number ≡ number }
+        ensures leads { result.leads ≡ leads }
         ensures command { result.command.value ≡ started.command.value }
         ensures unasked { IsUnasked (child_view result) }
     {
@@ -57,6 +70,7 @@ impl<R: Processes> Child<R> {
             alloc,
             number,
             id: process.id(),
+            leads,
             polls: 0,
             last: None,
             seen: SeenEnding { ending: None },
@@ -64,6 +78,16 @@ impl<R: Processes> Child<R> {
             command,
             started: process,
         }
+    }
+}
+
+/// The number of the signal of an order.
+fn signal_of(order: Order) -> i32
+    ensures { result ≡ signal_of order }
+{
+    match order {
+        Order::Kill => KILL,
+        Order::Signal(signal) => signal,
     }
 }
 
@@ -129,21 +153,25 @@ fn is_served(signal: i32) -> bool
     SIGNALS.contains(&signal)
 }
 
-/// The command that has the system's shell send a signal to a process, without the parent's
-/// variables.
-fn kill_command(alloc: Global, signal: i32, id: u32) -> Result<Command, AllocError>
-    ensures { IfOk result (RunsLine (kill_line signal id)) }
+/// The command that has the system's shell send a signal to a process, or to the group that it
+/// leads, without the parent's variables.
+fn kill_command(alloc: Global, signal: i32, group: bool, id: u32) -> Result<Command, AllocError>
+    ensures { IfOk result (RunsLine (kill_line signal group id)) }
 {
-    let line = kill_text(alloc, signal, id)?;
+    let line = kill_text(alloc, signal, group, id)?;
     shell_command(alloc, line.as_str())
 }
 
-/// The line by which a shell sends a signal to a process.
-fn kill_text(alloc: Global, signal: i32, id: u32) -> Result<String, AllocError>
+/// The line by which a shell sends a signal to a process, or to the group that it leads.
+fn kill_text(alloc: Global, signal: i32, group: bool, id: u32) -> Result<String, AllocError>
     ensures { IfOk result
-        (λ line. IfSome (printed_line signal id) (λ text. string_bytes line ≡ text)) }
+        (λ line. IfSome (printed_line signal group id) (λ text. string_bytes line ≡ text)) }
 {
-    format!(in alloc; "kill -{signal} {id}")
+    if group {
+        format!(in alloc; "kill -{signal} -{id}")
+    } else {
+        format!(in alloc; "kill -{signal} {id}")
+    }
 }
 
 /// The command that has the system's shell run a line, without the parent's variables.
@@ -218,6 +246,10 @@ impl<R: Processes + Drop> system::Child for Child<R> {
         self.id
     }
 
+    fn leads(&self) -> bool {
+        self.leads
+    }
+
     ghost has_number = { λ c. refl };
 }
 
@@ -240,19 +272,45 @@ impl<R: Processes> Child<R> {
         answer
     }
 
-    /// Gives the child an order, and returns its result.
+    /// Gives the child an order, or the group that it leads, and returns the result.
     fn answer_to(&mut self, order: Order) -> Result<(), Fault>
         ensures allowed { MayObey order true result }
         ensures view { child_view self.new ≡ child_view self.old }
+        ensures leads { self.new.leads ≡ self.old.leads }
         ensures orders { self.new.orders ≡ self.old.orders }
     {
         match order {
             Order::Signal(signal) if !is_served(signal) => Err(Fault::new(Kind::InvalidInput)),
-            Order::Kill | Order::Signal(KILL) => kill_process(&mut self.started),
-            Order::Signal(signal) => {
-                let asked = has_ended(self.seen.ending, self.last, &mut self.started);
-                self.send(signal, asked)
-            }
+            _ if self.leads => self.order_group(signal_of(order)),
+            Order::Kill => self.order_process(KILL),
+            Order::Signal(signal) => self.order_process(signal),
+        }
+    }
+
+    /// Sends the process a signal that is served: a kill by std, any other by a shell.
+    fn order_process(&mut self, signal: i32) -> Result<(), Fault>
+        ensures view { child_view self.new ≡ child_view self.old }
+        ensures leads { self.new.leads ≡ self.old.leads }
+        ensures orders { self.new.orders ≡ self.old.orders }
+    {
+        if signal == KILL {
+            return kill_process(&mut self.started);
+        }
+        let asked = has_ended(self.seen.ending, self.last, &mut self.started);
+        self.send(signal, asked)
+    }
+
+    /// Sends the group that the child leads a signal, by a shell. Where that reached none, and the
+    /// child has not been seen to end, the process is sent the signal.
+    fn order_group(&mut self, signal: i32) -> Result<(), Fault>
+        ensures view { child_view self.new ≡ child_view self.old }
+        ensures leads { self.new.leads ≡ self.old.leads }
+        ensures orders { self.new.orders ≡ self.old.orders }
+    {
+        let sent = self.send_by_shell(signal, true);
+        match group_answer(self.seen.ending, sent) {
+            Some(answer) => answer,
+            None => self.order_process(signal),
         }
     }
 
@@ -263,24 +321,27 @@ impl<R: Processes> Child<R> {
         ensures refused { IfErr asked (λ fault. result ≡ Err fault) }
     {
         if asked? {
-            Ok(())
-        } else {
-            self.send_by_shell(signal)
+            return Ok(());
+        }
+        match self.send_by_shell(signal, false)? {
+            true => Ok(()),
+            false => Err(Fault::new(Kind::Other)),
         }
     }
 
-    /// Has a shell send the child a signal, and blocks until the shell has ended.
-    fn send_by_shell(&self, signal: i32) -> Result<(), Fault> {
-        let mut shell = self.start_shell(signal)?;
+    /// Has a shell send a signal to the child, or to the group that it leads, and blocks until the
+    /// shell has ended. Returns whether the signal was sent, or that there is no such process.
+    fn send_by_shell(&self, signal: i32, group: bool) -> Result<bool, Fault> {
+        let mut shell = self.start_shell(signal, group)?;
         sent_by(wait_for(&mut shell.process)?)
     }
 
-    /// Starts a shell that sends the child a signal, and has no streams.
-    fn start_shell(&self, signal: i32) -> Result<Started<R::Started>, Fault>
+    /// Starts a shell that sends the signal, and has no streams.
+    fn start_shell(&self, signal: i32, group: bool) -> Result<Started<R::Started>, Fault>
         ensures { IfOk result
-            (λ shell. RunsLine (kill_line signal self.now.id) shell.command.value) }
+            (λ shell. RunsLine (kill_line signal group self.now.id) shell.command.value) }
     {
-        let Ok(command) = kill_command(self.alloc, signal, self.id) else {
+        let Ok(command) = kill_command(self.alloc, signal, group, self.id) else {
             return Err(no_memory());
         };
         start_command(
@@ -291,16 +352,26 @@ impl<R: Processes> Child<R> {
     }
 }
 
-/// Whether a shell that ended so has sent its signal: it has where it exited with code 0, and any
-/// other ending is the fault `Other`.
-fn sent_by(shell: process::ExitStatus) -> Result<(), Fault>
-    ensures ok { OnOk result (exit_code shell ≡ Some (pos 0)) }
-    ensures err { IfErr result
-        (λ fault. (fault.kind ≡ Other) × (exit_code shell ≢ Some (pos 0))) }
+/// The result of an order to a group, by what came of the shell: `None` where the order is to go to
+/// the process, since the group can't have been reached and the process has not been seen to end.
+fn group_answer(seen: Option<ExitStatus>, sent: Result<bool, Fault>) -> Option<Result<(), Fault>>
+    ensures { IsGroupAnswer seen sent result }
 {
-    if shell.success() {
-        Ok(())
-    } else {
-        Err(Fault::new(Kind::Other))
+    match (sent, seen) {
+        (Ok(true), _) | (Ok(false), Some(_)) => Some(Ok(())),
+        (Err(fault), Some(_)) => Some(Err(fault)),
+        (_, None) => None,
+    }
+}
+
+/// Whether a shell that ended so has sent its signal: it has where it exited with code 0. It found
+/// no such process where it exited with code 1. Any other ending is the fault `Other`.
+fn sent_by(shell: process::ExitStatus) -> Result<bool, Fault>
+    ensures { SentBy (exit_code shell) result }
+{
+    match shell.code() {
+        Some(0) => Ok(true),
+        Some(1) => Ok(false),
+        _ => Err(Fault::new(Kind::Other)),
     }
 }

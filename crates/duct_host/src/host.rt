@@ -1,7 +1,7 @@
 //! The host: a system over the real machine.
 ghost use Rattle.std.specs.Prelude.{◌≡◌, ◌≢◌, ◌⊎◌, ◌+◌, ◌-◌, ◌^◌, ◌<◌, ◌≤◌, [], map, min, Ok, Err, IfOk, IfErr};
 ghost use Rattle.duct_system.specs.Journal.{IsNew};
-ghost use Rattle.duct_system.specs.SpecView.{pair_text};
+ghost use Rattle.duct_system.specs.SpecView.{leads, pair_text};
 ghost use Rattle.duct_system.specs.declared.system.Kind.TheVariants.{Other, OutOfMemory};
 ghost use Rattle.duct_host.specs.Commands.{IsCommandOf};
 ghost use Rattle.duct_host.specs.Steps.{OnlyCounts};
@@ -10,16 +10,17 @@ use crate::child::Child;
 use crate::end::End;
 use crate::environment::{copy_of, variables};
 use crate::fault::{ask, no_memory};
+use crate::leader::look_up;
 use crate::opened::{canonical_twice, descriptor_of, names_of, open_to_read, open_to_write};
 use crate::parents::Parents;
-use crate::reader::Reader;
+use crate::reader::{Reader, Writer};
 use crate::spawn::{all_wired, start};
 use crate::standard::Standard;
 use duct_base::journal::Journal;
 use duct_base::spawn::{spawn_numbered_drain, spawn_numbered_feed};
 use duct_base::spec::CommandSpec;
 use duct_base::streams::{number_of, numbered_streams};
-use duct_base::system::{Entry, Fault, Kind, Numbered, Side, Stdio, System};
+use duct_base::system::{Entry, Fault, Kind, Numbered, Side, Stdio, System, Writers};
 use duct_base::worker::Worker;
 use std::alloc::{AllocError, Global};
 use std::fs::File;
@@ -179,14 +180,18 @@ impl<R: Processes + Files<File = File> + Env + Parents + Clone + Drop> Host<R> {
         ensures fresh { IfOk result (λ child. IsNew self.old self.new child.number) }
         ensures unasked { IfOk result (λ child. IsUnasked (child_view child)) }
         ensures command { IfOk result (λ child. IsCommandOf spec.now child.command.value) }
+        ensures leads { IfOk result (λ child. child.leads ≡ leads spec.now.words) }
     {
         let number = self.take_number()?;
         let Ok(rt) = self.rt.clone() else {
             return Err(no_memory());
         };
+        if spec.leads() {
+            look_up(&self.rt, self.alloc, spec)?;
+        }
         let streams = all_wired(io, &self.standard)?;
         let started = start(&self.rt, self.alloc, spec, streams)?;
-        Ok(Child::new(rt, self.alloc, number, started))
+        Ok(Child::new(rt, self.alloc, number, spec.leads(), started))
     }
 }
 
@@ -337,6 +342,7 @@ impl<R: Processes + Files<File = File> + Env + Parents + Threads + Clone + Drop>
             child.number self.old self.new) }
         ensures unasked { IfOk result (λ child. IsUnasked (child_view child)) }
         ensures command { IfOk result (λ child. IsCommandOf spec child.command.value) }
+        ensures leads { IfOk result (λ child. child.leads ≡ leads spec.words) }
         ensures err { IfErr result
             (λ fault. RefusesChild (λ e. e) spec io fault self.old self.new) }
     {
@@ -407,6 +413,16 @@ impl<R: Processes + Files<File = File> + Env + Parents + Threads + Clone + Drop>
     ghost same_bytes = { λ one other same. same };
 
     ghost feeds_say_again = { λ refusable. refusable };
+}
+
+impl<R: Processes + Files<File = File> + Env + Parents + Threads + Clone + Drop> Writers
+    for Host<R> {
+    type Writer = Writer;
+
+    fn writer(&mut self, end: End) -> Writer {
+        self.journal.add(Entry::Close(end.number()));
+        Writer::new(end.into_descriptor())
+    }
 }
 
 /// The variables of the environment, and a copy of them for the journal.

@@ -157,6 +157,7 @@ abbrev pub child_view : ReplayChild → ChildView
 child_view child = record {
   number = child.number;
   process = min child.number (2 ^ 32 - 1);
+  leads = false;
   polls = child.polls;
   last = child.last;
   ending = child.ending;

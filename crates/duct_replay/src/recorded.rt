@@ -124,6 +124,10 @@ impl<C: Child> Child for RecordedChild<C> {
     fn id(&self) -> u32 {
         self.inner.id()
     }
+
+    fn leads(&self) -> bool {
+        self.inner.leads()
+    }
 }
 
 /// A worker that a recorder started, and that reads. It is the worker of the system below, and the

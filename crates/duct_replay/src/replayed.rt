@@ -108,6 +108,10 @@ impl Child for ReplayChild {
         self.number.min(u64::from(u32::MAX)) as u32
     }
 
+    fn leads(&self) -> bool {
+        false
+    }
+
     ghost has_number = { λ _. refl };
 }
 

@@ -1,7 +1,7 @@
 -- The names that most proofs of this crate cite, passed on from one place. Declares nothing.
 pub use Rattle.std.proofs.lemmas.List.{length-map, length-set, append-nil}
 pub use Rattle.std.proofs.lemmas.List.Elements.{All-cons, All-head, All-nil, All-tail, All-weaker, Contains-append_left, Contains-append_right}
-pub use Rattle.std.specs.Prelude.{MatchOption}
+pub use Rattle.std.specs.Prelude.{MatchBool, MatchOption}
 pub use Rattle.duct_system.specs.Child.{Answer, ChildView, PollsChild, child_after, IsUnasked, Obeyed, OrdersChild, child_ordered, ending_after}
 pub use Rattle.duct_system.specs.Job.{JobView, PollsJob, kept_after, unpolled_job}
 pub use Rattle.duct_system.specs.SystemViews.{SystemViews}

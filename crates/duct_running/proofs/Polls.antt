@@ -68,7 +68,42 @@ module _ {C : Type 0} (view : C → ChildView) where
       (view after).process ≡ (view before).process → ids ≡ map (λ c. c.process) (map view items) → ids ≡ map (λ c. c.process) (map view (set items at after))
   named_in items children at before after ids same low is kept named = named ∙ sym (same_at (λ c. c.process) items at before after (within items children at same low) is kept)
 
+  -- the child at a place is one
+  pub same_child : (children : List C) (at : ℕ) (one other : C) → at < length children
+      → one ≡ get_or children at one → other ≡ get_or children at other → one ≡ other
+  same_child [] at one other low is also = absurd (omega arith)
+  same_child (child ∷ children) zero one other low is also = is ∙ sym also
+  same_child (child ∷ children) (suc at) one other low is also =
+      same_child children at one other (omega arith) is also
+
+  -- the word of the child at a place
+  pub said_at : (children : List C) (at : ℕ) (child : C) → at < length children
+      → child ≡ get_or children at child → slice_get (words children) at ≡ Some (said (view child))
+  said_at [] at child low is = absurd (omega arith)
+  said_at (first ∷ children) zero child low is = ap (λ (c : C). Some (said (view c))) (sym is)
+  said_at (first ∷ children) (suc at) child low is = said_at children at child (omega arith) is
+
   module _ (changes : ChildView → ChildView → Type 0) where
+    -- a child is replaced by one to which it may change
+    pub set_at : (children : List C) (at : ℕ) (before after : C) → at < length children
+        → before ≡ get_or children at before → changes (view before) (view after)
+        → ChangedAt changes at (map view children) (map view (set children at after))
+    set_at [] at before after low is change = absurd (omega arith)
+    set_at (child ∷ children) zero before after low is change =
+        (subst (λ (c : C). changes (view c) (view after)) is change, refl)
+    set_at (child ∷ children) (suc at) before after low is change =
+        (refl, set_at children at before after (omega arith) is change)
+
+    -- a child stays as it is
+    pub kept_at : (children : List C) (at : ℕ) (child : C) → at < length children
+        → child ≡ get_or children at child → changes (view child) (view child)
+        → ChangedAt changes at (map view children) (map view children)
+    kept_at [] at child low is change = absurd (omega arith)
+    kept_at (first ∷ children) zero child low is change =
+        (subst (λ (c : C). changes (view c) (view c)) is change, refl)
+    kept_at (first ∷ children) (suc at) child low is change =
+        (refl, kept_at children at child (omega arith) is change)
+
     -- a child that has ended is left as it is
     pub left_at : ((child : ChildView) → is_word_due (Some (said child)) ≡ false → changes child child) → (children : List C) (at : ℕ) → at < length children →
         is_word_due (slice_get (words children) at) ≡ false → ChangedAt changes at (map view children) (map view children)

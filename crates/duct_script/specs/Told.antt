@@ -19,6 +19,7 @@ abbrev pub child_view : ScriptChild → ChildView
 child_view child = record {
   number = child.number;
   process = min (child.number + 1000) (2 ^ 32 - 1);
+  leads = child.leads;
   polls = child.polls;
   last = child.last;
   ending = child.ending;

@@ -65,6 +65,7 @@ impl ChildScript {
 #[derive(Drop)]
 pub struct ScriptChild {
     number: u64,
+    leads: bool,
     script: ChildScript,
     polls: u64,
     last: Option<Result<Option<ExitStatus>, Fault>>,
@@ -79,16 +80,19 @@ impl ScriptChild {
     pub fn new(
         alloc: Global,
         number: u64,
+        leads: bool,
         script: ChildScript,
         calls: Option<Arc<CallLog>>,
     ) -> ScriptChild
         ensures number { result.number ≡ number }
+        ensures leads { result.leads ≡ leads }
         ensures unasked { IsUnasked (child_view result) }
         ensures script { result.script ≡ script }
         ensures calls { result.calls ≡ calls }
     {
         ScriptChild {
             number,
+            leads,
             script,
             polls: 0,
             last: None,
@@ -188,6 +192,10 @@ impl Child for ScriptChild {
     fn id(&self) -> u32 {
         let id = self.number.saturating_add(1000).min(u64::from(u32::MAX));
         id as u32
+    }
+
+    fn leads(&self) -> bool {
+        self.leads
     }
 
     ghost has_number = { λ c. refl };

@@ -351,8 +351,8 @@ impl Script {
         }
     }
 
-    /// Returns the next child, with this number.
-    fn next_child(&mut self, number: u64) -> ScriptChild
+    /// Returns the next child, with this number, which leads a group or doesn't.
+    fn next_child(&mut self, number: u64, leads: bool) -> ScriptChild
         ensures number { result.number ≡ number }
         ensures unasked { IsUnasked (child_view result) }
         ensures script { IsNext self.old.children.items (IsObeying []) result.script }
@@ -363,7 +363,7 @@ impl Script {
         let alloc = self.journal.allocator();
         let none = ChildScript::running(alloc);
         let script = self.children.pop_front().unwrap_or(none);
-        ScriptChild::new(alloc, number, script, self.shared_calls())
+        ScriptChild::new(alloc, number, leads, script, self.shared_calls())
     }
 
     /// Returns one more owner of the log, or `None` if there is no log or that owner can't be made.
@@ -553,10 +553,10 @@ impl System for Script {
         } else {
             self.ask(Sort::Spawn)
         };
-        let answer = self.answer(fault, 1);
+        let (answer, leads) = (self.answer(fault, 1), spec.leads());
         self.journal.add(Entry::Spawn(spec, streams, answer));
         self.spent(ends);
-        Ok(self.next_child(answer?))
+        Ok(self.next_child(answer?, leads))
     }
 
     fn start_feed(&mut self, end: ScriptEnd, bytes: Arc<Vec<u8>>) -> Result<ScriptFeed, Fault> {

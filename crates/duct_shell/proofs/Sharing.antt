@@ -58,7 +58,7 @@ child_row ℓ κ = Child.the_row (runtime_row ℓ κ) SystemProcess.the_row Chil
 pub child_send : (ℓ : Lifetime) (κ : Lft) → IsSend (child_row ℓ κ)
 child_send ℓ κ =
     let child = Child.the_type (ShrRef ℓ κ LibcRuntime.the_row) SystemProcess.the_row ChildStdin.the_row ChildStdout.the_row ChildStderr.the_row in
-    recorded_send _ _ _ child.to_one (struct_send (shape child) (search (sendable, crosses) depth 40, (search (sendable, crosses) depth 40, (search sendable, (search sendable, (search sendable, (search (sendable, crosses) depth 40, (seen_send, (search (sendable, crosses) depth 40, (search (sendable, crosses) depth 40, (search (sendable, crosses) depth 40, tt)))))))))))
+    recorded_send _ _ _ child.to_one (struct_send (shape child) (search (sendable, crosses) depth 40, (search (sendable, crosses) depth 40, (search sendable, (search sendable, (search sendable, (search sendable, (search (sendable, crosses) depth 40, (seen_send, (search (sendable, crosses) depth 40, (search (sendable, crosses) depth 40, (search (sendable, crosses) depth 40, tt))))))))))))
 
 -- a worker may be sent if its result may
 worker_send : (T : RattleType) (g : Shared.Ghosts T.Denot) → IsSend (Arc.the_row

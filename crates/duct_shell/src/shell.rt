@@ -150,9 +150,8 @@ impl<S: System, R, H: Drop> Shell<S, R, H> {
     }
 
     /// Makes a command that leads a process group of its own: `setsid`, the program and its
-    /// arguments. Where it is stopped at a limit, as a task or as a service, its whole group is:
-    /// the command and what it has started, but for what called `setsid` itself. Nothing is
-    /// started.
+    /// arguments. Where it is killed, sent a signal or stopped, its whole group is: the command and
+    /// what it has started, but for what called `setsid` itself. Nothing is started.
     ///
     /// Fails with `Error::Memory`, and only at an allocation failure.
     ///

@@ -81,8 +81,8 @@ pub trait SharedHandle: Sync {
         ensures told { (result ≡ Err Deadline) ⊎ may_return self.now result }
         ensures pending { result ≡ Ok None → may_run self.now };
 
-    /// Kills each command that is not known as ended. It doesn't wait until they have ended, nor
-    /// for another thread's wait, and doesn't reach what the commands started themselves.
+    /// Kills each command that is not known as ended, as `Handle::kill` does. It doesn't wait until
+    /// they have ended, nor for another thread's wait.
     ///
     /// Fails with `Error::System`, the leftmost fault.
     fn kill(&self, rt: &impl Wait) -> Result<(), Error>

@@ -13,12 +13,13 @@ Answer = Result (Option ExitStatus) Fault
 abbrev pub Obeyed : Type 0
 Obeyed = Result (Unit {0}) Fault
 
--- its number, what `id` returns, how often it was polled (at most the greatest u64), the result of
+-- its number, what `id` and `leads` return, how often it was polled (at most the greatest u64), the result of
 -- the last poll, its exit status once a poll has returned one, and the orders that it was given,
 -- with their results
 pub record ChildView : Type 0 where
   pub number : ℕ
   pub process : ℕ
+  pub leads : Bool
   pub polls : ℕ
   pub last : Option Answer
   pub ending : Option ExitStatus

@@ -1,9 +1,11 @@
 -- What contracts see of a command's spec.
-use Rattle.std.specs.Prelude.{ℕ, List, [], ◌∷◌, ◌≡◌, Some, None, if◌then◌else◌, not, map, filter, string_bytes, option_map, Option, String}
+use Rattle.std.specs.Prelude.{ℕ, Bool, false, ◌||◌, List, [], ◌∷◌, ◌≡◌, Some, None, if◌then◌else◌, codes, nat_eq, not, map, filter, string_bytes, option_map, Option, String}
 use Rattle.std.specs.Borrow.{Bor}
 use Rattle.std.specs.BTreeMap.{insert_entry}
+use Rattle.std.specs.List.{ends_with}
 use Rattle.std.specs.List.Sorted.{IsStrictlySortedBy}
 use Rattle.std.specs.Map.{keys_of, lookup_entry}
+use Rattle.std.specs.Str.{bytes_eq}
 use Rattle.duct_system.specs.Name.{is_same_name, name_cmp}
 use Rattle.duct_system.specs.declared.spec.Port.{Port}
 use Rattle.duct_system.specs.declared.spec.Port.TheVariants.{Given}
@@ -26,6 +28,13 @@ pub record SpecView : Type 0 where
   pub input : Port
   pub output : Port
   pub error : Port
+
+-- whether a command with these words leads a group of processes: its program is `setsid`, or a path
+-- that ends so
+abbrev pub leads : List (List ℕ) → Bool
+leads [] = false
+leads (program ∷ words) =
+    bytes_eq program (codes "setsid") || ends_with nat_eq program (codes "/setsid")
 
 -- the variable with this name, if there is one: its spelling and its value
 abbrev pub variable_in : List ℕ → Vars → Option (List ℕ × List ℕ)

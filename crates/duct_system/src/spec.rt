@@ -1,7 +1,7 @@
 //! The spec of a command: the words, folder, variables and streams that its child is started with.
 ghost use Rattle.std.specs.Arc.{arc_value};
 ghost use Rattle.std.specs.Prelude.{◌≡◌, ◌≢◌, [], ◌∷◌, ◌++◌, map, string_bytes, Some, IfOk, IfErr, IsOkUnless, OnOk, OnErr, option_copied, option_map};
-ghost use Rattle.duct_system.specs.SpecView.{SpecView, AreOrdered, value_of, with_var, without_var, var_view, texts_of, port_of, gives, GivesNothing};
+ghost use Rattle.duct_system.specs.SpecView.{SpecView, AreOrdered, leads, value_of, with_var, without_var, var_view, texts_of, port_of, gives, GivesNothing};
 ghost use Rattle.duct_system.specs.declared.system.Fault.{Fault};
 
 use crate::copy::copies_of_texts;
@@ -100,6 +100,20 @@ impl CommandSpec {
         ensures { map string_bytes result.now ≡ self.now.words }
     {
         self.words.as_slice()
+    }
+
+    /// Returns whether the command leads a group of processes: its program is `setsid`, or a path
+    /// that ends so.
+    pub fn leads(&self) -> bool
+        ensures { result ≡ leads self.now.words }
+    {
+        match self.words().first() {
+            Some(program) => {
+                let program = program.as_str();
+                program == "setsid" || program.ends_with("/setsid")
+            }
+            None => false,
+        }
     }
 
     // Returns the program and its arguments, as the spec shares them.

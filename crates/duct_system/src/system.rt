@@ -17,7 +17,7 @@ ghost use Rattle.duct_system.specs.declared.system.Order.{Order};
 ghost use Rattle.duct_system.specs.declared.system.Said.{Said};
 
 use crate::spec::CommandSpec;
-use std::io::Read;
+use std::io::{Read, Write};
 use std::sync::Arc;
 use std::time::Duration;
 
@@ -202,6 +202,11 @@ pub trait Child: Numbered {
     /// Returns the process id, by which the machine knows the child.
     fn id(&self) -> u32
         ensures { result ≡ (child_view self.now).process };
+
+    /// Returns whether the child leads a group of processes, to which its orders go, also once it
+    /// has ended.
+    fn leads(&self) -> bool
+        ensures { result ≡ (child_view self.now).leads };
 
     /// The number in the view is the child's number.
     ghost has_number: { (child : Self) → (child_view child).number ≡ Self.number_of child };
@@ -423,4 +428,18 @@ pub trait System {
 
     /// One more owner of a feed's result can always be made.
     ghost feeds_say_again: { ¬ Self.Feed.refusable };
+}
+
+/// A system whose ends a caller can also write, as `System::reader` lets one read them.
+pub trait Writers: System {
+    /// A writer to an end, for the caller. Dropping it closes the end.
+    type Writer: Write + Drop;
+
+    /// Returns a writer to the end. It can't fail. The entry says that the end was closed, since no
+    /// request can name it any more. An implementation must not allocate here; no clause states
+    /// this.
+    fn writer(&mut self, end: Self::End) -> Self::Writer
+        requires { 0 < (Self.journal_view self.old).room }
+        ensures { GivesEnds (Close (Self.End.number_of end)) 1 (Self.journal_view self.old)
+            (Self.journal_view self.new) };
 }

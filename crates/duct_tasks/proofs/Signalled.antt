@@ -1,5 +1,5 @@
 -- Children that are given orders, and are polled in between.
-use Rattle.std.specs.Prelude.{ℕ, pos, zero, suc, Bool, true, false, List, [], ◌∷◌, ◌++◌, All, length, map, is_some, unwrap_or, MatchOption, Ok, Err, Some, None}
+use Rattle.std.specs.Prelude.{ℕ, pos, zero, suc, Bool, true, false, List, [], ◌∷◌, ◌++◌, All, length, map, is_some, unwrap_or, MatchBool, MatchOption, Ok, Err, Some, None}
 use Rattle.std.specs.Result.{result_and}
 use Rattle.std.proofs.Common.{◌≡◌, ◌<◌, ◌∙◌, arith, refl, ap, sym, subst, inl, inr, option_map, Option}
 use Rattle.duct_tasks.proofs.Common.{All-cons, All-head, All-nil, All-tail, Signal, shape_view, RunningView, SystemViews, AllAsked, AllZip, PolledOnce, Bytes, HasOrders, IsSignalled, RunsAlike, ShapeView, AreSignalled}
@@ -121,21 +121,22 @@ module _ (may : ℕ → Order → Bool → Obeyed → Type 0) where
       )))
 
   sent_if_due : (before after : ChildView) (answer : Obeyed) (ending : Option ExitStatus)
-      → before.ending ≡ ending → before.orders ≡ []
+      (leads : Bool) → before.ending ≡ ending → before.orders ≡ []
       → MatchOption ending (OrdersChild may (Signal (pos 15)) before answer after)
-      (λ status. (answer ≡ Ok tt) × (after ≡ before))
+      (λ status. MatchBool leads (OrdersChild may (Signal (pos 15)) before answer after) ((answer ≡ Ok tt) × (after ≡ before)))
       → IsSignalled may after
-  sent_if_due before after answer None is none orders = sent before after answer none orders
-  sent_if_due before after answer (Some status) is none done =
+  sent_if_due before after answer None leads is none orders = sent before after answer none orders
+  sent_if_due before after answer (Some status) true is none orders = sent before after answer none orders
+  sent_if_due before after answer (Some status) false is none done =
       subst (λ (c : ChildView). IsSignalled may c) (sym done.1)
       (inr (inr (ap (λ (e : Option ExitStatus). is_some e) is, none)))
 
   sent_by : (before after : ChildView) (given : Given) → before.orders ≡ []
       → IsGiven may (Signal (pos 15)) before given after → IsSignalledBy may given.0 after
   sent_by before after (None, answer) none orders = sent_if_due before after answer before.ending
-      refl none orders
+      before.leads refl none orders
   sent_by before after (Some false, answer) none orders = sent_if_due before after answer
-      before.ending refl none orders
+      before.ending before.leads refl none orders
   sent_by before after (Some true, answer) none same = ap (λ (c : ChildView). c.orders) same.1 ∙ none
 
   -- the signal is sent to children with no order, or to their groups
@@ -186,19 +187,24 @@ module _ (may : ℕ → Order → Bool → Obeyed → Type 0) where
   module _ (fact : ChildView → ℕ)
       (stays : (order : Order) (answer : Obeyed) (child : ChildView)
       → fact (child_ordered order answer child) ≡ fact child) (order : Order) where
+    fact_noted : (before after : ChildView) (answer : Obeyed)
+        → OrdersChild may order before answer after → fact after ≡ fact before
+    fact_noted before after answer (inl p) = ap fact p.1 ∙ stays order answer before
+    fact_noted before after answer (inr p) = ap fact p.1
+
     fact_ordered : (before after : ChildView) (answer : Obeyed) (ending : Option ExitStatus)
-        → MatchOption ending (OrdersChild may order before answer after)
-        (λ status. (answer ≡ Ok tt) × (after ≡ before))
+        (leads : Bool) → MatchOption ending (OrdersChild may order before answer after)
+        (λ status. MatchBool leads (OrdersChild may order before answer after) ((answer ≡ Ok tt) × (after ≡ before)))
         → fact after ≡ fact before
-    fact_ordered before after answer None (inl p) = ap fact p.1 ∙ stays order answer before
-    fact_ordered before after answer None (inr p) = ap fact p.1
-    fact_ordered before after answer (Some status) done = ap fact done.1
+    fact_ordered before after answer None leads p = fact_noted before after answer p
+    fact_ordered before after answer (Some status) true p = fact_noted before after answer p
+    fact_ordered before after answer (Some status) false done = ap fact done.1
 
     fact_given : (before after : ChildView) (given : Given) → IsGiven may order before given after
         → fact after ≡ fact before
-    fact_given before after (None, answer) p = fact_ordered before after answer before.ending p
+    fact_given before after (None, answer) p = fact_ordered before after answer before.ending before.leads p
     fact_given before after (Some false, answer) p = fact_ordered before after answer before.ending
-        p
+        before.leads p
     fact_given before after (Some true, answer) p = ap fact p.1
 
     facts_given : (befores : List ChildView) (givens : List Given) (afters : List ChildView)

@@ -67,7 +67,8 @@ impl Bench {
     fn keep(&mut self, alloc: Global, number: u64, child: &str) -> Result<(), TableError> {
         let reservation = reservation_new(alloc)?;
         let calls = Arc::try_clone(&self.calls)?;
-        let child = ScriptChild::new(alloc, number, child_script(alloc, child)?, Some(calls));
+        let script = child_script(alloc, child)?;
+        let child = ScriptChild::new(alloc, number, false, script, Some(calls));
         pool_take(&mut self.pool, place_new(child, reservation));
         Ok(())
     }

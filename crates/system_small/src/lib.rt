@@ -93,6 +93,10 @@ impl Child for SmallChild {
     fn id(&self) -> u32 {
         self.number.min(u64::from(u32::MAX)) as u32
     }
+
+    fn leads(&self) -> bool {
+        false
+    }
 }
 
 /// A worker that reads an end, and never ends. None is started.

@@ -1,4 +1,4 @@
-//! A test of a group of processes on the real machine, of which nothing is left that belongs to it.
+//! Tests of groups of processes on the real machine, of which nothing is left that belongs to them.
 use duct_host::HostClock;
 use duct_shell::Shell;
 use std::test::Fail;
@@ -35,5 +35,31 @@ fn a_limit_ends_a_whole_group(rt: HostRuntime) -> Result<(), Fail> {
         }
     }
     assert!(rt; stayed > 0 && stayed <= 100, "{stayed}");
+    Ok(())
+}
+
+/// Checks that a kill ends a whole group right after its start, and what is left of one whose leader
+/// has ended, fifty times each.
+#[test]
+fn a_kill_ends_a_whole_group(rt: HostRuntime) -> Result<(), Fail> {
+    let mut sh = Shell::new(&rt);
+    let group = sh.group("sh", &["-c", STARTS])?;
+    let short = sh.group("sh", &["-c", "sleep 39.00$PPID & exit 0"])?;
+    let (looks, nap) = (sh.cmd("sh", &["-c", LOOKS])?, sh.cmd("sleep", &["0.01"])?);
+    for _ in 0..50 {
+        let begun = sh.launch(&group)?;
+        sh.kill(begun)?;
+        sh.give_up(begun)?;
+        let ended = sh.launch(&short)?;
+        for _ in 0..1000 {
+            if sh.poll(ended)?.is_some() {
+                break;
+            }
+            sh.run(&nap)?;
+        }
+        sh.kill(ended)?;
+        sh.give_up(ended)?;
+        sh.run(&looks)?;
+    }
     Ok(())
 }

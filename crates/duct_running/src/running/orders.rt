@@ -31,9 +31,9 @@ fn result_of(answer: Result<(), Fault>) -> Result<(), Error>
 }
 
 impl<S: System> Running<S> {
-    /// Kills each command that is not known to have ended, once and from right to left, so that no
-    /// command finds that its input has ended before its own order. Where one can't be killed, the
-    /// others still are. It doesn't wait until they have ended.
+    /// Kills each command that is not known to have ended, or leads a group, once and from right to
+    /// left, so that no command finds that its input has ended before its own order. Where one can't
+    /// be killed, the others still are. It doesn't wait until they have ended.
     ///
     /// Fails with `Error::System`, the leftmost fault. Where there is no memory to note the order
     /// for a command, the command is not killed and its fault is `OutOfMemory`.
@@ -47,8 +47,8 @@ impl<S: System> Running<S> {
         self.order_all(Order::Kill)
     }
 
-    /// Sends the signal of this number to each command that is not known to have ended, in the
-    /// order of `kill`. It may wait for a program that the system runs to send it. Fails as `kill`
+    /// Sends the signal of this number to each command that is not known to have ended, or leads a
+    /// group, in the order of `kill`. It may wait for a program that the system runs to send it. Fails as `kill`
     /// does.
     pub fn signal(&mut self, signal: i32) -> Result<(), Error>
         ensures shape { self.new.shape ≡ self.old.shape }
@@ -75,7 +75,7 @@ impl<S: System> Running<S> {
     }
 
     /// Gives an order to the command at this place, counted from 0 on the left, unless it is known
-    /// to have ended. It may wait for a program that the system runs to send a signal. Fails with
+    /// to have ended and leads no group. It may wait for a program that the system runs to send a signal. Fails with
     /// the fault of the order, as `kill` does.
     pub fn order_at(&mut self, at: usize, order: Order) -> Result<(), Fault>
         requires { at < length self.old.children }
@@ -85,14 +85,14 @@ impl<S: System> Running<S> {
         ensures output { self.new.output ≡ self.old.output }
         ensures error { self.new.error ≡ self.old.error }
     {
-        if !self.core.is_due(at) {
+        if !self.core.is_due(at) && !self.children[at].leads() {
             return Ok(());
         }
         give(&mut self.children[at], order)
     }
 
-    // Gives an order to each child that has not ended, from right to left, and returns the leftmost
-    // fault.
+    // Gives an order to each child that has not ended or leads a group, from right to left, and
+    // returns the leftmost fault.
     fn order_all(&mut self, order: Order) -> Result<(), Error>
         ensures shape { self.new.shape ≡ self.old.shape }
         ensures ordered { ChildrenOrdered ⟦<S as Viewed>⟧.views order self.old result self.new }

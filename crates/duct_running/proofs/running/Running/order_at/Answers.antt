@@ -1,14 +1,10 @@
 use Rattle.duct_running.proofs.Common.{length-set, RunningView}
-use Rattle.std.proofs.Common.{ap, sym, ◌∙◌, map, option_map}
+use Rattle.std.proofs.Common.{ap, sym, ◌∙◌, map, option_map, inl, inr}
 use Rattle.duct_running.proofs.Orders.{unordered_in, ordered_in, id_kept, words_in_order}
-use Rattle.duct_running.proofs.Polls.{named_in}
+use Rattle.duct_running.proofs.Polls.{named_in, same_child, within}
 use Rattle.duct_running.proofs.Told.{ordered_told}
+use Rattle.duct_running.proofs.running.Running.order_at.Goals.{else-not-is_due-via-then-not-is_due+else-not-leads, else-not-is_due-via-else-not-is_due}
 use Rattle.duct_running.proofs.running.Running.order_at.Goals as goal
-
-pub returns-then-not-is_due-clause-ordered : goal.returns-then-not-is_due-clause-ordered
-returns-then-not-is_due-clause-ordered g c =
-    unordered_in g.S.Child.Child.may_obey c.args.order g.S.Child.Child.child_view (map g.S.Feed.Job.job_view c.self.inside.feeds.items) (option_map g.S.Drain.Job.job_view c.self.inside.drains.out) (option_map g.S.Drain.Job.job_view c.self.inside.drains.err)
-    c.self.inside.children.items c.args.self.now.children c.args.at _ (ap (λ (r : RunningView _ _ _). r.children) c.self.view_is) c.self.invariant.heard c.requires (sym c.if-not-is_due.ensures)
 
 pub invariant_of-self : goal.invariant_of-self
 invariant_of-self g c = record {
@@ -25,8 +21,19 @@ invariant_of-self g c = record {
   fits = c.self.invariant.fits;
 }
 
+pub returns-then-not-leads-clause-ordered : goal.returns-then-not-leads-clause-ordered
+returns-then-not-leads-clause-ordered g c =
+    unordered_in g.S.Child.Child.may_obey c.args.order g.S.Child.Child.child_view (map g.S.Feed.Job.job_view c.self.inside.feeds.items) (option_map g.S.Drain.Job.job_view c.self.inside.drains.out) (option_map g.S.Drain.Job.job_view c.self.inside.drains.err)
+    c.self.inside.children.items c.args.self.now.children c.args.at c.index.result.now _ (ap (λ (r : RunningView _ _ _). r.children) c.self.view_is) c.self.invariant.heard c.requires (sym c.if-not-is_due.ensures)
+    c.index.ensures (sym c.if-not-leads.ensures)
+
 pub returns-clause-ordered : goal.returns-clause-ordered
 returns-clause-ordered g c =
     ordered_in g.S.Child.Child.may_obey c.args.order g.S.Child.Child.child_view (map g.S.Feed.Job.job_view c.self.inside.feeds.items) (option_map g.S.Drain.Job.job_view c.self.inside.drains.out) (option_map g.S.Drain.Job.job_view c.self.inside.drains.err)
     c.self.inside.children.items c.args.self.now.children c.args.at c.index_mut.result.now c.give.new.child c.give.result _ (ap (λ (r : RunningView _ _ _). r.children) c.self.view_is) c.self.invariant.heard c.requires
-    (sym c.if-not-is_due.ensures) c.index_mut.ensures.value c.give.ensures
+    (elim c.else-not-is_due.branch [
+      | else-not-is_due-via-then-not-is_due+else-not-leads w ↦ inr (
+          ap (λ (child : _). (g.S.Child.Child.child_view child).leads) (same_child g.S.Child.Child.child_view c.self.inside.children.items c.args.at c.index_mut.result.now w.index.result.now (within g.S.Child.Child.child_view c.self.inside.children.items c.args.self.now.children c.args.at (ap (λ (r : RunningView _ _ _). r.children) c.self.view_is) c.requires) c.index_mut.ensures.value w.index.ensures)
+          ∙ sym w.if-not-leads.ensures)
+      | else-not-is_due-via-else-not-is_due w ↦ inl (sym w.if-not-is_due.ensures)
+    ]) c.index_mut.ensures.value c.give.ensures
