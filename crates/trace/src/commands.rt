@@ -1,7 +1,7 @@
 //! The commands over the recording of a start: the journal, how children ended, and what was read.
 //! `trace record` makes its file before anything starts, and writes it when everything has ended;
 //! the others run the start of the words again from it, with no process and no file.
-ghost use Rattle.std.specs.Prelude.{◌≡◌, ◌≢◌, ◌⊎◌, ◌≤◌, map, string_bytes, codes};
+ghost use Rattle.std.specs.Prelude.{◌≡◌, ◌⊎◌, ◌≤◌, map, string_bytes, IfOk, IfSome, Some};
 ghost use Rattle.std.specs.Io.KnownBytes.{Appends};
 ghost use Rattle.duct_system.specs.EntryView.{entry_view};
 ghost use Rattle.duct_program.specs.Answered.{WritesText, WritesUsage, line_of};
@@ -11,7 +11,8 @@ ghost use Rattle.duct_replay.specs.Judged.{IsRight};
 ghost use Rattle.duct_replay.specs.Lines.{recorded_text, recorded_view};
 ghost use Rattle.duct_replay.specs.RecordingView.{RecordingView};
 ghost use Rattle.duct_replay.specs.declared.judgement.Verdict.{Verdict};
-ghost use Rattle.trace.specs.Commands.{IsJudged, IsReplayed};
+ghost use Rattle.duct_replay.specs.declared.private.PrivateFile.{PrivateFile};
+ghost use Rattle.trace.specs.Commands.{AsksFor, IsJudged, IsReplayed, record_of, verdict_status, verdict_text};
 
 use duct::{Entry, Expression, Hook, Numbered, System};
 use duct_program::{NoHook, Program, Usage, line, path_and_words, perform, text_at};
@@ -31,29 +32,68 @@ const RECORD: Program = Program {
     failed: 3,
 };
 
-/// Does what the arguments ask for. Returns the status.
+/// Does what the arguments ask for: starts the words as `record` does, and writes the recording to
+/// a file that its owner alone may read. Returns the status. It blocks as `record` does.
 pub fn recorded<R: Files + Wait + AllocGlobal, S: Records, O: Write, E: Write>(
     rt: &R,
     sys: &mut S,
     arguments: &[String],
     out: &mut O,
     err: &mut E,
-) -> u8 {
+) -> u8
+    ensures file { result ≤ 1 → (opened : PrivateFile R.File) × (recording : RecordingView)
+        × (written : R.File) × (opened.mode.value ≡ 0o600)
+        × (recording.entries ≡ (S.journal_view sys.new).entries) × S.may_record sys.new recording
+        × AsksFor (map string_bytes arguments.now) opened.path.value.now (λ values. Appends
+        (⟦<R::File as Write>⟧.contents opened.file) (⟦<R::File as Write>⟧.contents written)
+        (recorded_text values (recorded_view recording))) }
+    ensures status { result ≤ 3 }
+{
+    let Some(asked) = asked(arguments) else {
+        let usage = "record: usage: trace record [--hide] JOURNAL -- WORD..\n";
+        return RECORD.tell(err, 2, usage);
+    };
+    match private_file(rt, asked.path) {
+        Ok(mut opened) => {
+            let journal = &mut opened.file;
+            record(
+                rt,
+                rt.alloc(),
+                sys,
+                asked.words,
+                asked.values,
+                journal,
+                out,
+                err,
+            )
+        }
+        Err(error) => RECORD.tell_error(err, &error, 2, "record: journal can't be opened\n"),
+    }
+}
+
+/// What `trace record` is asked for.
+#[derive(Drop)]
+struct Asked<'a> {
+    values: Values,
+    path: &'a str,
+    words: &'a [String],
+}
+
+// Returns what the arguments ask for, or `None` where a path or the mark `--` is missing.
+fn asked(arguments: &[String]) -> Option<Asked<'_>>
+    ensures { IfSome result (λ asked. record_of (map string_bytes arguments.now)
+        ≡ Some (asked.values, asked.path.now, map string_bytes asked.words.now)) }
+{
     let (values, arguments) = match arguments.split_first() {
         Some((first, others)) if first.as_str() == "--hide" => (Values::Hidden, others),
         Some(_) | None => (Values::Shown, arguments),
     };
-    let Some((path, words)) = path_and_words(arguments) else {
-        let usage = "record: usage: trace record [--hide] JOURNAL -- WORD..\n";
-        return RECORD.tell(err, 2, usage);
-    };
-    match private_file(rt, path) {
-        Ok(mut opened) => {
-            let journal = &mut opened.file;
-            record(rt, rt.alloc(), sys, words, values, journal, out, err)
-        }
-        Err(error) => RECORD.tell_error(err, &error, 2, "record: journal can't be opened\n"),
-    }
+    let (path, words) = path_and_words(arguments)?;
+    Some(Asked {
+        values,
+        path,
+        words,
+    })
 }
 
 /// Does the work of `host` by `perform`, and returns its status. Whatever that is, the text of the
@@ -160,14 +200,11 @@ pub fn judge_line<O: Write, E: Write>(
     out: &mut O,
     err: &mut E,
 ) -> u8
-    ensures yes { result ≡ 0 → IsJudged ⟦<NoHook as Hook>⟧.allows ⟦<NoHook as Hook>⟧.refuses
+    ensures judged { result ≤ 1 → IsJudged ⟦<NoHook as Hook>⟧.allows ⟦<NoHook as Hook>⟧.refuses
         ⟦<ReplayEnd as Numbered>⟧.number_of (map string_bytes words.now) (map entry_view entries.now)
-        (λ verdict. verdict ≡ Verdict.Yes) }
-    ensures says { result ≡ 0 → Appends (O.contents out.old) (O.contents out.new) (codes "yes\n")
-        × (err.new ≡ err.old) }
-    ensures no { result ≡ 1 → IsJudged ⟦<NoHook as Hook>⟧.allows ⟦<NoHook as Hook>⟧.refuses
-        ⟦<ReplayEnd as Numbered>⟧.number_of (map string_bytes words.now) (map entry_view entries.now)
-        (λ verdict. verdict ≢ Verdict.Yes) × (err.new ≡ err.old) }
+        (λ verdict made. (result ≡ verdict_status verdict)
+        × IfSome (verdict_text verdict (map entry_view entries.now) made) (λ text.
+        Appends (O.contents out.old) (O.contents out.new) text)) × (err.new ≡ err.old) }
     ensures usage { result ≡ 2 → (usage : Usage) × RefusesAs usage (line_of
         ⟦<ReplayEnd as Numbered>⟧.number_of ⟦<NoHook as Hook>⟧.allows (map string_bytes words.now))
         × (out.new ≡ out.old) }
@@ -182,35 +219,37 @@ pub fn judge_line<O: Write, E: Write>(
     let Ok((verdict, replay)) = judge(alloc, &expression, entries) else {
         return program.tell(err, 3, program.no_memory);
     };
-    if verdict == Verdict::Yes {
-        return program.tell(out, 0, "yes\n");
-    }
-    match no_line(alloc, verdict, entries, replay.journal()) {
-        Ok(line) => program.tell(out, 1, line.as_str()),
+    match verdict_line(alloc, verdict, entries, replay.journal()) {
+        Ok((status, line)) => program.tell(out, status, line.as_str()),
         Err(_) => program.tell(err, 3, program.no_memory),
     }
 }
 
-// Returns the line of a verdict, where the start made these entries.
-fn no_line(
+// Returns the status and the line of a verdict, where the start made these entries.
+fn verdict_line(
     alloc: Global,
     verdict: Verdict,
     recorded: &[Entry],
     made: &[Entry],
-) -> Result<String, AllocError>
+) -> Result<(u8, String), AllocError>
     requires { IsRight verdict (map entry_view recorded.now) (map entry_view made.now) }
+    ensures status { IfOk result (λ made. made.0 ≡ verdict_status verdict) }
+    ensures line { IfOk result (λ told. IfSome (verdict_text verdict
+        (map entry_view recorded.now) (map entry_view made.now))
+        (λ text. string_bytes told.1 ≡ text)) }
 {
-    match verdict {
-        Verdict::Yes => format!(in alloc; "yes\n"),
+    let line = match verdict {
+        Verdict::Yes => return Ok((0, String::from_str(alloc, "yes\n")?)),
         Verdict::Differs(place) => {
             let (found, due) = (RequestText(&recorded[place]), RequestText(&made[place]));
-            format!(in alloc; "no: entry {place} differs: {found} in place of {due}\n")
+            format!(in alloc; "no: entry {place} differs: {found} in place of {due}\n")?
         }
         Verdict::Ends(place) => {
-            format!(in alloc; "no: ends where {} was due\n", RequestText(&made[place]))
+            format!(in alloc; "no: ends where {} was due\n", RequestText(&made[place]))?
         }
-        Verdict::GoesOn(place) => format!(in alloc; "no: goes on at entry {place}\n"),
-    }
+        Verdict::GoesOn(place) => format!(in alloc; "no: goes on at entry {place}\n")?,
+    };
+    Ok((1, line))
 }
 
 /// Does the work of `host` by `perform` over a replay of this recording, and returns its status. If
