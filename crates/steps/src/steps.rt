@@ -179,25 +179,3 @@ pub fn summarize<W: Write>(
     }
     out.flush()
 }
-
-#[cfg(test)]
-mod tests {
-    use super::*;
-    use duct::{Fault, Kind};
-    use duct_script::{Script, ScriptClock, Sort};
-    use std::test::Fail;
-
-    #[test]
-    fn a_spawn_that_fails(rt: HostRuntime) -> Result<(), Fail> {
-        let (alloc, clock) = (rt.alloc(), ScriptClock::new(Vec::new(rt.alloc())));
-        let mut system = Script::new(alloc)?;
-        system.refuse_sort(Sort::Spawn, 1, Fault::new(Kind::NotFound))?;
-        let steps = read_steps(alloc, "lint: lint\nunit: make", "", &[], 4)?;
-        let ends = run_steps(&rt, &mut system, &steps, &clock, 2, None, |_, _| {})?;
-        let mut out = Vec::new(alloc);
-        summarize(&mut out, &steps.names, &ends, None)?;
-        let wanted = "lint: spawn of \"lint\": NotFound, 0 s\nunit: not started\n";
-        assert_eq!(rt; str::from_utf8(&out)?, wanted);
-        Ok(())
-    }
-}

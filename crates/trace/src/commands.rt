@@ -15,12 +15,12 @@ ghost use Rattle.duct_replay.specs.declared.private.PrivateFile.{PrivateFile};
 ghost use Rattle.trace.specs.Commands.{AsksFor, IsJudged, IsReplayed, record_of, verdict_status, verdict_text};
 
 use duct::{Entry, Expression, Hook, Numbered, System};
+use duct_base::text::RequestText;
 use duct_program::{NoHook, Program, Usage, line, path_and_words, perform, text_at};
 use duct_replay::{
     Recording, Records, Refusal, Replay, ReplayEnd, ReplayReader, Values, Verdict, judge,
     private_file, read_recording, recording_text,
 };
-use duct_shell::RequestText;
 use duct_system::views::Viewed;
 use std::alloc::{AllocError, Global};
 use std::io::{Read, Write};
@@ -49,51 +49,31 @@ pub fn recorded<R: Files + Wait + AllocGlobal, S: Records, O: Write, E: Write>(
         (recorded_text values (recorded_view recording))) }
     ensures status { result ≤ 3 }
 {
-    let Some(asked) = asked(arguments) else {
+    let Some((values, path, words)) = record_arguments(arguments) else {
         let usage = "record: usage: trace record [--hide] JOURNAL -- WORD..\n";
         return RECORD.tell(err, 2, usage);
     };
-    match private_file(rt, asked.path) {
+    match private_file(rt, path) {
         Ok(mut opened) => {
             let journal = &mut opened.file;
-            record(
-                rt,
-                rt.alloc(),
-                sys,
-                asked.words,
-                asked.values,
-                journal,
-                out,
-                err,
-            )
+            record(rt, rt.alloc(), sys, words, values, journal, out, err)
         }
         Err(error) => RECORD.tell_error(err, &error, 2, "record: journal can't be opened\n"),
     }
 }
 
-/// What `trace record` is asked for.
-#[derive(Drop)]
-struct Asked<'a> {
-    values: Values,
-    path: &'a str,
-    words: &'a [String],
-}
-
-// Returns what the arguments ask for, or `None` where a path or the mark `--` is missing.
-fn asked(arguments: &[String]) -> Option<Asked<'_>>
+// Returns how values stand, the path and the words that the arguments ask for, or `None` where a path
+// or the mark `--` is missing.
+fn record_arguments(arguments: &[String]) -> Option<(Values, &str, &[String])>
     ensures { IfSome result (λ asked. record_of (map string_bytes arguments.now)
-        ≡ Some (asked.values, asked.path.now, map string_bytes asked.words.now)) }
+        ≡ Some (asked.0, asked.1.now, map string_bytes asked.2.now)) }
 {
     let (values, arguments) = match arguments.split_first() {
         Some((first, others)) if first.as_str() == "--hide" => (Values::Hidden, others),
         Some(_) | None => (Values::Shown, arguments),
     };
     let (path, words) = path_and_words(arguments)?;
-    Some(Asked {
-        values,
-        path,
-        words,
-    })
+    Some((values, path, words))
 }
 
 /// Does the work of `host` by `perform`, and returns its status. Whatever that is, the text of the
