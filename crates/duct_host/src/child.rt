@@ -301,7 +301,8 @@ impl<R: Processes> Child<R> {
     }
 
     /// Sends the group that the child leads a signal, by a shell. Where that reached none, and the
-    /// child has not been seen to end, the process is sent the signal.
+    /// child has not been seen to end, the process is sent the signal, and then the group again,
+    /// which the process may have begun to lead meanwhile.
     fn order_group(&mut self, signal: i32) -> Result<(), Fault>
         ensures view { child_view self.new ≡ child_view self.old }
         ensures leads { self.new.leads ≡ self.old.leads }
@@ -310,7 +311,11 @@ impl<R: Processes> Child<R> {
         let sent = self.send_by_shell(signal, true);
         match group_answer(self.seen.ending, sent) {
             Some(answer) => answer,
-            None => self.order_process(signal),
+            None => {
+                let answer = self.order_process(signal);
+                let _ = self.send_by_shell(signal, true);
+                answer
+            }
         }
     }
 
